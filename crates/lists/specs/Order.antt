@@ -125,7 +125,8 @@ natOrders = record {
   same = λ a. nat-same a a (omega arith) (omega arith);
   equal = nat-equal;
   flips = nat-flips;
-  chain = λ a b c p q. nat-less a c (lt-trans (nat-lower a b p) (nat-lower b c q)) }
+  chain = λ a b c p q. nat-less a c (lt-trans (nat-lower a b p) (nat-lower b c q));
+}
 
 -- ---- lists
 less-cases : (w v : Ordering) → andThen w v ≡ Less → (w ≡ Less) ⊎ ((w ≡ Equal) × (v ≡ Less))

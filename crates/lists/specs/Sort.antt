@@ -71,7 +71,8 @@ is-less Greater e = cc
 pub by-strict : {A K : Type 0} (cmp : K → K → Ordering) (key : A → K) → Ranks cmp → Strict (by cmp key)
 by-strict cmp key L = record {
   asym = λ x y e. rw (L .flips (key x) (key y), is-less (cmp (key x) (key y)) e);
-  chain = λ x y z p q. rw (L .chain (key x) (key y) (key z) (is-less (cmp (key x) (key y)) p) (is-less (cmp (key y) (key z)) q)) }
+  chain = λ x y z p q. rw (L .chain (key x) (key y) (key z) (is-less (cmp (key x) (key y)) p) (is-less (cmp (key y) (key z)) q));
+}
 
 other-way : (w : Ordering) → isLess w ≡ false → (w ≡ Equal → ⊥) → isLess (flip w) ≡ true
 other-way Less e h = sym e

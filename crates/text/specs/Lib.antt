@@ -1,0 +1,5 @@
+pub mod Text
+pub mod Greatest
+pub mod Steps
+pub mod Grammar
+pub mod Examples
