@@ -1,0 +1,3 @@
+pub mod Le
+pub mod Fields
+pub mod Parts
