@@ -2,7 +2,7 @@
 use mathlib.Core.Path.{_≡_, refl, sym, ap, subst, _∙_}
 use mathlib.Core.Bool.{Bool, true, false, cond}
 use mathlib.Core.Logic.{_⊎_, inl, inr, ⊎-elim}
-use mathlib.Core.List.{List, [], _∷_}
+use mathlib.Core.List.{List, [], _∷_, _++_}
 use Prim.Native.Nat.{ℕ, _<_, _≤_}
 use native.Mathlib.Nat.{lt-trans, lt-irrefl, le-antisymm}
 use native.Mathlib.Omega.{arith}
@@ -134,7 +134,7 @@ less-cases Less v e = inl refl
 less-cases Equal v e = inr (refl, e)
 less-cases Greater v e = inl e
 
-equal-cases : (w v : Ordering) → andThen w v ≡ Equal → (w ≡ Equal) × (v ≡ Equal)
+pub equal-cases : (w v : Ordering) → andThen w v ≡ Equal → (w ≡ Equal) × (v ≡ Equal)
 equal-cases Less v e = (e, cc)
 equal-cases Equal v e = (refl, e)
 equal-cases Greater v e = (e, cc)
@@ -186,6 +186,12 @@ module _ {K : Type 0} (cmp : K → K → Ordering) (L : Orders cmp) where
       go ih (inl l) (inr m) = let e : cmp x z ≡ Less = rw (← L .equal y z (m .0)) l in rw e
       go ih (inr l) (inl m) = let e : cmp x z ≡ Less = rw (L .equal x y (l .0)) m in rw e
       go ih (inr l) (inr m) = let e : cmp x z ≡ Equal = rw (L .equal x y (l .0)) (m .0) in rw e (ih (l .1) (m .1))
+
+  -- what both begin with does not matter
+  pub lex-append : (p a b : List K) → lex cmp (p ++ a) (p ++ b) ≡ lex cmp a b
+  unfolding lex
+  lex-append [] a b = refl
+  lex-append (x ∷ p) a b = rw (L .same x) (lex-append p a b)
 
   pub lexOrders : Orders (lex cmp)
   lexOrders = record { same = lex-same; equal = lex-equal; flips = lex-flips; chain = lex-chain }

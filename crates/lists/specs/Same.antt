@@ -2,7 +2,9 @@
 use Prim.Native.Nat.{ℕ, zero, suc, _+_, _-_, _<_, _≤_}
 use mathlib.Core.Path.{_≡_, refl, sym, ap, ap₂, subst, _∙_}
 use mathlib.Core.Bool.{Bool, true, false, cond, false≢true}
-use mathlib.Core.List.{List, [], _∷_}
+use mathlib.Core.List.{List, [], _∷_, _++_}
+use native.Mathlib.Omega.{arith}
+use lib.ListN.{length, length-append}
 use borrow.Author.Tests.{eq-eqb, eqb-true}
 use lib.Dec.{eqb}
 
@@ -22,6 +24,19 @@ unfoldable pub hasBytes : List (List ℕ) → List ℕ → Bool
 hasBytes [] x = false
 hasBytes (d ∷ ds) x = cond (sameBytes d x) true (hasBytes ds x)
 
+cond-false : (t : Bool) → cond t false false ≡ false
+cond-false true = refl
+cond-false false = refl
+
+-- two tests in a row, either first
+cond-swap : (t u b : Bool) → cond t (cond u b false) false ≡ cond u (cond t b false) false
+cond-swap true u b = refl
+cond-swap false true b = refl
+cond-swap false false b = refl
+
+none : {A : Type 0} (a : List A) (x : A) → length (a ++ x ∷ []) ≡ 0 → ⊥
+none a x e = omega (arith, length-append a (x ∷ []))
+
 module _ {A : Type 0} (f : A → A → Bool) where
   pub same-refl : ((x : A) → f x x ≡ true) → (a : List A) → same f a a ≡ true
   unfolding same
@@ -38,6 +53,28 @@ module _ {A : Type 0} (f : A → A → Bool) where
       go : (b : Bool) → f x y ≡ b → cond b (same f xs ys) false ≡ true → (same f xs ys ≡ true → xs ≡ ys) → x ∷ xs ≡ y ∷ ys
       go true t u ih = ap₂ {C = List A} (λ p q. p ∷ q) (h x y t) (ih u)
       go false t u ih = absurd (false≢true u)
+
+  -- lists of two lengths differ
+  pub same-length : (a b : List A) → (length a ≡ length b → ⊥) → same f a b ≡ false
+  unfolding same
+  same-length [] [] n = absurd (n refl)
+  same-length [] (y ∷ ys) n = refl
+  same-length (x ∷ xs) [] n = refl
+  same-length (x ∷ xs) (y ∷ ys) n = rw (same-length xs ys (λ e. n (ap suc e))) (cond-false (f x y))
+
+  -- what both begin with does not matter
+  pub same-append : ((x : A) → f x x ≡ true) → (p a b : List A) → same f (p ++ a) (p ++ b) ≡ same f a b
+  unfolding same
+  same-append h [] a b = refl
+  same-append h (x ∷ p) a b = rw (h x) (same-append h p a b)
+
+  -- from the back: the last elements, and then what stands before them
+  pub same-snoc : (a b : List A) (x y : A) → same f (a ++ x ∷ []) (b ++ y ∷ []) ≡ cond (f x y) (same f a b) false
+  unfolding same
+  same-snoc [] [] x y = refl
+  same-snoc [] (v ∷ b) x y = rw (same-length [] (b ++ y ∷ []) (λ e. none b y (sym e)), cond-false (f x v), cond-false (f x y))
+  same-snoc (u ∷ a) [] x y = rw (same-length (a ++ x ∷ []) [] (none a x), cond-false (f u y), cond-false (f x y))
+  same-snoc (u ∷ a) (v ∷ b) x y = rw (same-snoc a b x y) (cond-swap (f u v) (f x y) (same f a b))
 
 pub eqb-refl : (x : ℕ) → eqb x x ≡ true
 eqb-refl x = eq-eqb x x refl

@@ -1,0 +1,7 @@
+pub mod Bytes
+pub mod Walks
+pub mod Backs
+pub mod Writes
+pub mod Parents
+pub mod Orders
+pub mod Keys

@@ -1,0 +1,6 @@
+pub mod Path
+pub mod Examples
+pub mod Walk
+pub mod Parts
+pub mod Theorems
+pub mod Ancestors

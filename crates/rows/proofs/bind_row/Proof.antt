@@ -1,0 +1,48 @@
+-- Carried by `bound-stored`: the row's numbers and its padded path are the row, stored.
+use native.Mathlib.Omega.{arith}
+use Rattle.rows.specs.Laws.{row-fits}
+use Rattle.rows.proofs.Fields.{bound-stored}
+use borrow.Author.Needs.{needs}
+use Rattle.rows.proofs.bind_row.Statement.{statement}
+use Rattle.rows.proofs.bind_row.Tie as tie
+
+mark-requires : tie.Need-mark-requires
+mark-requires c κs = search needs
+
+put-nums-requires : tie.Need-put-nums-requires
+put-nums-requires c κs =
+    let pre = c .before .before .before .before .before .pre in
+    omega (arith, row-fits _ _ _ _ (pre .0) _ (pre .1))
+
+mul-put-padded : tie.Need-mul-put-padded
+mul-put-padded c =
+    let pre = c .before .before .before .before .before .before .before .before .before .pre in
+    omega (arith, row-fits _ _ _ _ (pre .0) _ (pre .1))
+
+put-padded-requires : tie.Need-put-padded-requires
+put-padded-requires c κs =
+    let pre = c .before .before .before .before .before .before .before .before .before .pre in
+    (omega (arith, row-fits _ _ _ _ (pre .0) _ (pre .1)), pre .2)
+
+same-length : tie.Need-same-length
+same-length c = search needs
+
+same-length-2 : tie.Need-same-length-2
+same-length-2 c = search needs
+
+returns : tie.Need-returns
+returns c =
+    let pre = c .before .before .before .before .before .before .before .before .before .before .before .before .pre in
+    bound-stored _ _ _ _ (pre .0) _ (pre .1) _ _ _ _ _ _ _ (pre .2) (c .before .before .before .before .before .before .before .mark .ensures) (c .before .before .before .before .before .before .put-nums .ensures) (c .before .before .put-padded .ensures)
+
+pub bind-row-spec : {M : Type 1} → statement M
+bind-row-spec =
+    tie.close
+    (tie.spec
+    mark-requires
+    put-nums-requires
+    mul-put-padded
+    put-padded-requires
+    same-length
+    same-length-2
+    returns)

@@ -1,0 +1,5 @@
+pub mod Rows
+pub mod Zeros
+pub mod Laws
+pub mod Find
+pub mod Examples
