@@ -1,0 +1,85 @@
+//! Compares the original and the model on all short scripts with every plan of at most two faults, and the library
+//! with the model if it is linked.
+//!
+//! `exhaustive [--depth N] [--faults N] [--device N]`: calls after the mount (3), faults in a plan (2), one device
+//! instead of all.
+
+use std::time::Instant;
+
+use compare::arguments::{Arguments, stop};
+use compare::exhaust;
+use compare::library::{self, Library};
+use compare::pair;
+use compare::tally::Tally;
+use model::{Model, ModelRunner};
+use script::{Machine, Script, shrink};
+
+fn main() {
+    let arguments = Arguments::read(&["depth", "faults", "device"], &[]);
+    let depth = arguments.number("depth", 3) as usize;
+    let faults = arguments.number("faults", 2) as usize;
+    let only = arguments.number("device", u64::MAX);
+    if !original::PRESENT && Library::find().is_none() {
+        stop("neither the original nor the library is there: nothing to compare");
+    }
+    println!("depth {depth}, at most {faults} faults");
+    for (number, (about, setup)) in (0..).zip(exhaust::devices()) {
+        if only != u64::MAX && only != number {
+            continue;
+        }
+        let began = Instant::now();
+        let mut tally = Tally::default();
+        let mut library = Library::find();
+        let mut bare = 0u64;
+        exhaust::scripts(&setup, depth, &mut |script| {
+            bare += 1;
+            exhaust::plans(&mut script.clone(), faults, &mut |script| {
+                run(script, &mut tally, &mut library)
+            });
+        });
+        println!("device {number}, {about}: {bare} scripts without plans");
+        print!("{tally}");
+        println!(
+            "no difference; {:.0} seconds",
+            began.elapsed().as_secs_f64()
+        );
+    }
+}
+
+/// Compares one script and gives how many device calls it made.
+fn run(script: &Script, tally: &mut Tally, library: &mut Option<Library>) -> u32 {
+    if original::PRESENT
+        && let Err(difference) = pair::compare(script, tally)
+    {
+        println!("{difference}");
+        let small = shrink::shrink(script, |script| {
+            pair::compare(script, &mut Tally::default()).is_err()
+        });
+        finish(&small);
+    }
+    if let Some(library) = library
+        && let Err(difference) = library::agrees(library, &mut ModelRunner, &script.bytes())
+    {
+        println!("library and model: {difference}");
+        let small = shrink::shrink(script, |script| {
+            library::agrees(library, &mut ModelRunner, &script.bytes()).is_err()
+        });
+        finish(&small);
+    }
+    let mut model = Model::start(&script.setup);
+    for op in &script.ops {
+        model.step(op);
+    }
+    model.tables().place
+}
+
+fn finish(small: &Script) -> ! {
+    println!("DIFFERENCE:\n{small}");
+    let hex: String = small
+        .bytes()
+        .iter()
+        .map(|byte| format!("{byte:02x}"))
+        .collect();
+    println!("script in hexadecimal: {hex}");
+    std::process::exit(1);
+}
