@@ -1,0 +1,154 @@
+// The calls that are exported to the oracle harness: check, header, text and paths as plain functions on numbers and byte slices. Each may be
+// called with anything. A refusal is 01's number, in the order 3, 4, 5, 13, and leaves `out` as it was; 13 says that `out` is too small.
+// Where an answer has a value, it is number * 2^32 + value.
+use header::Decoded;
+use header::Header;
+ghost use mathlib.Core.Path.{_≡_};
+ghost use Prim.Native.Nat.{_≤_};
+ghost use lib.ListN.{length};
+ghost use Rattle.fnv.specs.Fnv.{fnvFrom};
+ghost use Rattle.le.specs.Le.{laid};
+ghost use Rattle.path.specs.Path.{normal};
+ghost use Rattle.harness.specs.Calls.{outcome, refusal, numbersOf, encodeCall, decodeCall, textCall, sameCall, spelled, normalCall, parentCall};
+
+// The state of the 32-bit FNV-1a behind these bytes, from the state `start`.
+#[no_mangle]
+pub extern "C" fn slot_check(start: u32, bytes: &[u8]) -> u32
+    ensures { λ r. ⌜ r ≡ fnvFrom start (now (bytes .entry)) ⌝ }
+{
+    fnv::fnv1a32(start, bytes)
+}
+
+// 0 and the header block in the first 512 bytes of out; or 3, 4, 13. in_use is 0 for a free slot.
+#[no_mangle]
+pub extern "C" fn header_encode(
+    in_use: u8,
+    len: u64,
+    generation: u64,
+    path: &[u8],
+    out: &mut [u8],
+) -> u8
+    ensures { λ r. ⌜ outcome r (now (out .exit)) ≡ encodeCall «in_use» len generation (now (path .entry)) (now (out .entry)) ⌝ }
+{
+    if !text::is_text(path) {
+        return 3;
+    }
+    let path_len = path.len();
+    if path_len > Header::MAX_PATH {
+        return 4;
+    }
+    if out.len() < Header::LEN {
+        return 13;
+    }
+    let h = Header {
+        in_use: in_use != 0,
+        path_len,
+        len,
+        generation,
+    };
+    let block = h.encode(path);
+    bytes::copy(&block, out);
+    0
+}
+
+// 0 and in use, path length, file length and generation as four u64 in the first 32 bytes of out; 1 for an absent header; or 13.
+#[no_mangle]
+pub extern "C" fn header_decode(block: &[u8], out: &mut [u8]) -> u8
+    ensures { λ r. ⌜ outcome r (now (out .exit)) ≡ decodeCall (now (block .entry)) (now (out .entry)) ⌝ }
+{
+    if out.len() < 32 {
+        return 13;
+    }
+    let n = block.len();
+    if n < Header::LEN {
+        return 1;
+    }
+    let mut whole = header::zeros();
+    bytes::copy(&block[..Header::LEN], &mut whole);
+    let Decoded::Found(h) = Header::decode(whole, n) else {
+        return 1;
+    };
+    put_numbers(out, h);
+    0
+}
+
+// Writes the four numbers of a header to the front of out.
+fn put_numbers(out: &mut [u8], h: Header)
+    requires { ⌜ 32 ≤ length (now out) ⌝ }
+    ensures { λ _. ⌜ now (out .exit) ≡ laid (now (out .entry)) 0 (numbersOf h) ⌝ }
+{
+    le::put_at(out, 0, 8, header::flags_of(h.in_use));
+    le::put_at(out, 8, 8, h.path_len as u64);
+    le::put_at(out, 16, 8, h.len);
+    le::put_at(out, 24, 8, h.generation);
+}
+
+// 1 if the bytes are text, else 0.
+#[no_mangle]
+pub extern "C" fn text_is(bytes: &[u8]) -> u8
+    ensures { λ r. ⌜ r ≡ textCall (now (bytes .entry)) ⌝ }
+{
+    if text::is_text(bytes) {
+        return 1;
+    }
+    0
+}
+
+// 1 if a and b spell one path, else 0; or 3.
+#[no_mangle]
+pub extern "C" fn path_same(a: &[u8], b: &[u8]) -> u8
+    ensures { λ r. ⌜ r ≡ sameCall (now (a .entry)) (now (b .entry)) ⌝ }
+{
+    if !text::is_text(a) {
+        return 3;
+    }
+    if !text::is_text(b) {
+        return 3;
+    }
+    if path::same_path(a, b) {
+        return 1;
+    }
+    0
+}
+
+// The normal spelling in the front of out, and its length; or 3, 13.
+#[no_mangle]
+pub extern "C" fn path_normal(path: &[u8], out: &mut [u8]) -> u64
+    ensures { λ r. ⌜ outcome r (now (out .exit)) ≡ normalCall (now (path .entry)) (now (out .entry)) ⌝ }
+{
+    if !text::is_text(path) {
+        return refusal(3);
+    }
+    spell(path, out)
+}
+
+// The normal spelling of the parent in the front of out, and its length; or 3, 5, 13.
+#[no_mangle]
+pub extern "C" fn path_parent(path: &[u8], out: &mut [u8]) -> u64
+    ensures { λ r. ⌜ outcome r (now (out .exit)) ≡ parentCall (now (path .entry)) (now (out .entry)) ⌝ }
+{
+    if !text::is_text(path) {
+        return refusal(3);
+    }
+    let lists::Found::At(e) = path::parent_end(path) else {
+        return refusal(5);
+    };
+    spell(&path[..e], out)
+}
+
+// The normal spelling in the front of out, and its length; or 13.
+fn spell(path: &[u8], out: &mut [u8]) -> u64
+    ensures { λ r. ⌜ outcome r (now (out .exit)) ≡ spelled (normal (now (path .entry))) (now (out .entry)) ⌝ }
+{
+    if out.len() < path::normal_len(path) {
+        return refusal(13);
+    }
+    path::normalize(path, out) as u64
+}
+
+// A refusal where an answer has a value.
+fn refusal(number: u8) -> u64
+    ensures { λ r. ⌜ r ≡ refusal number ⌝ }
+{
+    (number as u64) * 0x1_0000_0000
+}

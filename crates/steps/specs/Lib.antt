@@ -1,0 +1,6 @@
+pub mod World
+pub mod Steps
+pub mod Examples
+pub mod Laws
+pub mod Frees
+pub mod Calls

@@ -1,0 +1,70 @@
+-- The steps that the pool's calls share: a header written and flushed, a release (01, "Release"), and the sync of one row (01, "sync").
+use Prim.Native.Nat.{ℕ}
+use mathlib.Core.Bool.{Bool, cond}
+use mathlib.Core.List.{List, []}
+use lib.Dec.{eqb}
+use lib.ListN.{length, set}
+use Rattle.header.specs.declared.Header.{Header}
+use Rattle.header.specs.Block.{freeHeader, boundHeader, encoded}
+use Rattle.device.specs.declared.Geometry.{Geometry}
+use Rattle.device.specs.Device.{Dev, flushM, headerWriteM, dataTruncateM}
+use Rattle.rows.specs.Rows.{Row, unbound, at, pathOf, genOf, lenOf, cleaned}
+use Rattle.table.specs.State.{State}
+use Rattle.table.specs.Queue.{queued, spent}
+use Rattle.steps.specs.World.{World, world}
+
+-- ---- on the device
+
+-- The last device call was done: neither failed nor cut short.
+abbrev pub fineM : Dev → Bool
+fineM d = eqb (d .place .last) 0
+
+-- "It stops at the first failure": the next call, if the last one was done.
+abbrev pub andThen : Dev → (Dev → Dev) → Dev
+andThen d next = cond (fineM d) (next d) d
+
+-- A block is written as the slot's header, and flushed.
+unfoldable pub putM : List ℕ → Geometry → ℕ → List ℕ → Dev → Dev
+putM plan g slot block d = andThen (headerWriteM plan g slot block d) (flushM plan)
+
+-- The block of a free header.
+abbrev pub freeBlock : ℕ → List ℕ
+freeBlock generation = encoded (freeHeader generation) []
+
+-- "write the free header, flush, truncate to 0"
+unfoldable pub freeM : List ℕ → Geometry → ℕ → ℕ → Dev → Dev
+freeM plan g slot generation d = andThen (putM plan g slot (freeBlock generation) d) (dataTruncateM plan g slot 0)
+
+-- ---- on the pool
+
+-- Row i becomes r.
+unfoldable pub withRow : ℕ → Row → State → State
+withRow i r s = record { cap = s .cap; dirCap = s .dirCap; rows = set (s .rows) i r; dirs = s .dirs; queue = s .queue; counter = s .counter }
+
+-- "Unbind under a new generation, length 0": an unbound row has length 0 and is clean.
+unfoldable pub unbinds : ℕ → State → State
+unbinds i s = spent (withRow i (unbound (s .counter)) s)
+
+-- ".. join the queue's end. It stops at the first failure and the slot is then neither bound nor free. Its row is clean either way."
+unfoldable pub released : ℕ → Bool → State → State
+released i fine s = cond fine (queued i (unbinds i s)) (unbinds i s)
+
+-- "Release", the whole of it. The number that it came to, 0, 10 or 11, stays the last outcome.
+unfoldable pub releaseM : List ℕ → Geometry → ℕ → World → World
+releaseM plan g i w =
+    let d = freeM plan g i (w .state .counter) (w .dev) in
+    world d (released i (fineM d) (w .state))
+
+-- The header of a bound row, and its block.
+unfoldable pub rowHeader : Row → Header
+rowHeader r = boundHeader (length (pathOf r)) (lenOf r) (genOf r)
+
+abbrev pub rowBlock : Row → List ℕ
+rowBlock r = encoded (rowHeader r) (pathOf r)
+
+-- "Sync writes and flushes a dirty header ..; success makes it clean"; a failure changes no row.
+unfoldable pub syncRowM : List ℕ → Geometry → ℕ → World → World
+syncRowM plan g i w =
+    let r = at (w .state .rows) i in
+    let d = putM plan g i (rowBlock r) (w .dev) in
+    world d (cond (fineM d) (withRow i (cleaned r) (w .state)) (w .state))

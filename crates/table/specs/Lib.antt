@@ -1,0 +1,5 @@
+pub mod State
+pub mod Queue
+pub mod Laws
+pub mod Changes
+pub mod Reads
