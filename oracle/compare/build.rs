@@ -8,6 +8,7 @@ use std::path::{Path, PathBuf};
 fn main() {
     println!("cargo::rustc-check-cfg=cfg(library)");
     println!("cargo::rustc-check-cfg=cfg(scripts)");
+    println!("cargo::rustc-check-cfg=cfg(records)");
     println!("cargo::rerun-if-env-changed=HARNESS");
     if env::var_os("CARGO_FEATURE_SELFCHECK").is_some() {
         println!("cargo::rustc-cfg=library");
@@ -30,6 +31,9 @@ fn main() {
         println!("cargo::rustc-cfg=scripts");
     } else {
         println!("cargo::warning=the library has no pool_script: whole scripts are not run on it");
+    }
+    if exports(&archive, b"record_check") {
+        println!("cargo::rustc-cfg=records");
     }
 }
 

@@ -4,7 +4,7 @@ use mathlib.Core.Path.{_≡_, refl, sym, ap, ap₂, _∙_}
 use mathlib.Core.Bool.{Bool, true, false, cond, not}
 use mathlib.Core.List.{List, _++_}
 use borrow.Author.Tests.{lt-ltb, le-ltb}
-use lib.ListN.{length, take, drop}
+use lib.ListN.{length, take, drop, replicate}
 use lib.Seq.{take-length}
 use Rattle.le.specs.Le.{laid}
 use Rattle.le.specs.Parts.{laid-front, laid-whole}
@@ -13,7 +13,9 @@ use Rattle.path.specs.Path.{components, samePath, hasParent, join, normal, pare
 use Rattle.path.specs.Walk.{UpTo}
 use Rattle.header.specs.Block.{blockLen, maxPath, headerOf, encoded, decoded}
 use Rattle.header.specs.Laws.{short-absent}
-use Rattle.harness.specs.Calls.{outcome, refusal, encodeCall, saidOf, decodeCall, textCall, sameCall, spelled, normalCall, parentCall}
+use Rattle.harness.specs.Calls.{outcome, refusal, encodeCall, saidOf, decodeCall, textCall, sameCall, spelled, normalCall, parentCall, recordCall}
+use Rattle.table.specs.State.{bufs}
+use Rattle.admit.specs.Test.{isPool}
 use lib.Dec.{eqb}
 
 -- what a test said of a flag, of what the flag stands for
@@ -120,3 +122,12 @@ module _ (path out : List ℕ) where
     pub parent-text : (e : ℕ) → UpTo path e → spelled (normal (take e path)) out ≡ parentCall path out
     unfolding parentCall normal parentOf
     parent-text e u = rw (t, u .has, u .names)
+
+-- ---- the record
+
+-- the answer is the test's, of a record whose queue has empty cells
+pub record-said : (l n d q : List ℕ) (rows dirRows held dirsHeld counter : ℕ) (t : Bool) {r : ℕ} → q ≡ replicate 64 0
+    → isPool (bufs (record { rows = rows; «dir_rows» = dirRows; held = held; dirs = dirsHeld; counter = counter; free = 0; queue = q }) l n d) ≡ t
+    → r ≡ cond t 1 0 → r ≡ recordCall l n d rows dirRows held dirsHeld counter
+unfolding recordCall
+record-said l n d q rows dirRows held dirsHeld counter t e f h = h ∙ rw (← e, f)

@@ -2,7 +2,7 @@
 use Prim.Native.Nat.{ℕ, _*_, _^_}
 use mathlib.Core.Bool.{Bool, cond, not}
 use mathlib.Core.List.{List, _++_}
-use lib.ListN.{length, take}
+use lib.ListN.{length, take, replicate}
 use lib.Dec.{eqb, ltb}
 use Rattle.le.specs.Le.{le, laid}
 use Rattle.text.specs.Text.{isText}
@@ -11,6 +11,8 @@ use Rattle.header.specs.Block.{blockLen, maxPath, headerOf, flagsOf, encoded, d
 use Rattle.header.specs.declared.Header.{Header}
 use Rattle.header.specs.declared.Decoded.{Decoded}
 use Rattle.header.specs.declared.Decoded.the-variants.{Absent, Found}
+use Rattle.table.specs.State.{bufs}
+use Rattle.admit.specs.Test.{isPool}
 
 -- What a call leaves: its answer, and the lent buffer.
 pub record Outcome : Type 0 where
@@ -76,3 +78,10 @@ parentCall path out =
     cond (not (isText path)) (outcome (refusal 3) out)
     (cond (not (hasParent (components path))) (outcome (refusal 5) out)
     (spelled (parentOf path) out))
+
+-- ---- the record
+
+-- record_check: 1 for a pool, 0 for none, of rows and a record with an empty queue.
+unfoldable pub recordCall : List ℕ → List ℕ → List ℕ → ℕ → ℕ → ℕ → ℕ → ℕ → ℕ
+recordCall nums names dirs rows dirRows held dirsHeld counter =
+    cond (isPool (bufs (record { rows = rows; «dir_rows» = dirRows; held = held; dirs = dirsHeld; counter = counter; free = 0; queue = replicate 64 0 }) nums names dirs)) 1 0

@@ -14,7 +14,7 @@ use Rattle.path.specs.Path.{components, hasParent, normal, parentOf}
 use Rattle.header.specs.Block.{blockLen, maxPath, decoded}
 use Rattle.header.specs.declared.Decoded.{Decoded}
 use Rattle.header.specs.declared.Decoded.the-variants.{Absent, Found}
-use Rattle.harness.specs.Calls.{Outcome, outcome, refusal, saidOf, encodeCall, decodeCall, textCall, sameCall, spelled, normalCall, parentCall}
+use Rattle.harness.specs.Calls.{Outcome, outcome, refusal, saidOf, encodeCall, decodeCall, textCall, sameCall, spelled, normalCall, parentCall, recordCall}
 
 -- ---- one outcome
 
@@ -35,6 +35,10 @@ module _ {r r′ : ℕ} where
 
   pub path-same-one-outcome : (a b : List ℕ) → r ≡ sameCall a b → r′ ≡ sameCall a b → r ≡ r′
   path-same-one-outcome a b = one-answer (sameCall a b)
+
+  pub record-check-one-outcome : (l n d : List ℕ) (rows dirRows held dirsHeld counter : ℕ) → r ≡ recordCall l n d rows dirRows held dirsHeld counter
+      → r′ ≡ recordCall l n d rows dirRows held dirsHeld counter → r ≡ r′
+  record-check-one-outcome l n d rows dirRows held dirsHeld counter = one-answer (recordCall l n d rows dirRows held dirsHeld counter)
 
   module _ {o o′ : List ℕ} where
     pub header-encode-one-outcome : (u l g : ℕ) (path out : List ℕ) → outcome r o ≡ encodeCall u l g path out → outcome r′ o′ ≡ encodeCall u l g path out → (r ≡ r′) × (o ≡ o′)

@@ -3,13 +3,14 @@
 // Where an answer has a value, it is number * 2^32 + value.
 use header::Decoded;
 use header::Header;
+use table::Pool;
 ghost use mathlib.Core.Path.{_≡_};
 ghost use Prim.Native.Nat.{_≤_};
-ghost use lib.ListN.{length};
+ghost use lib.ListN.{length, replicate};
 ghost use Rattle.fnv.specs.Fnv.{fnvFrom};
 ghost use Rattle.le.specs.Le.{laid};
 ghost use Rattle.path.specs.Path.{normal};
-ghost use Rattle.harness.specs.Calls.{outcome, refusal, numbersOf, encodeCall, decodeCall, textCall, sameCall, spelled, normalCall, parentCall};
+ghost use Rattle.harness.specs.Calls.{outcome, refusal, numbersOf, encodeCall, decodeCall, textCall, sameCall, spelled, normalCall, parentCall, recordCall};
 
 // The state of the 32-bit FNV-1a behind these bytes, from the state `start`.
 #[no_mangle]
@@ -151,4 +152,41 @@ fn refusal(number: u8) -> u64
     ensures { λ r. ⌜ r ≡ refusal number ⌝ }
 {
     (number as u64) * 0x1_0000_0000
+}
+
+// Whether rows, and a record of these counts with an empty queue, are a pool: 1 or 0. Every public call begins with this test; it is exported
+// so that its time can be measured alone.
+#[no_mangle]
+pub extern "C" fn record_check(
+    nums: &[u64],
+    names: &[u8],
+    dirs: &[u8],
+    rows: usize,
+    dir_rows: usize,
+    held: usize,
+    dirs_held: usize,
+    counter: u64,
+) -> u8
+    ensures { λ r. ⌜ r ≡ recordCall (now (nums .entry)) (now (names .entry)) (now (dirs .entry)) rows «dir_rows» held «dirs_held» counter ⌝ }
+{
+    let pool = Pool {
+        rows,
+        dir_rows,
+        held,
+        dirs: dirs_held,
+        counter,
+        free: 0,
+        queue: no_slots(),
+    };
+    if admit::pool_ok(nums, names, dirs, pool) {
+        return 1;
+    }
+    0
+}
+
+// The cells of an empty queue.
+fn no_slots() -> [u8; 64]
+    ensures { λ r. ⌜ r ≡ replicate 64 0 ⌝ }
+{
+    [0u8; 64]
 }

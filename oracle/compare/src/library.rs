@@ -19,6 +19,20 @@ mod linked {
         fn path_same(a: *const u8, a_length: usize, b: *const u8, b_length: usize) -> u8;
         fn path_normal(path: *const u8, length: usize, out: *mut u8, out_length: usize) -> u64;
         fn path_parent(path: *const u8, length: usize, out: *mut u8, out_length: usize) -> u64;
+        #[cfg(records)]
+        fn record_check(
+            nums: *const u64,
+            nums_length: usize,
+            names: *const u8,
+            names_length: usize,
+            dirs: *const u8,
+            dirs_length: usize,
+            rows: usize,
+            dir_rows: usize,
+            held: usize,
+            dirs_held: usize,
+            counter: u64,
+        ) -> u8;
         #[cfg(scripts)]
         fn pool_script(script: *const u8, length: usize, out: *mut u8, out_length: usize) -> usize;
     }
@@ -62,6 +76,26 @@ mod linked {
 
     pub fn parent(path: &[u8], out: &mut [u8]) -> u64 {
         unsafe { path_parent(path.as_ptr(), path.len(), out.as_mut_ptr(), out.len()) }
+    }
+
+    #[cfg(records)]
+    pub fn record(nums: &[u64], names: &[u8], dirs: &[u8], counts: [usize; 4], counter: u64) -> u8 {
+        let [rows, dir_rows, held, dirs_held] = counts;
+        unsafe {
+            record_check(
+                nums.as_ptr(),
+                nums.len(),
+                names.as_ptr(),
+                names.len(),
+                dirs.as_ptr(),
+                dirs.len(),
+                rows,
+                dir_rows,
+                held,
+                dirs_held,
+                counter,
+            )
+        }
     }
 
     #[cfg(scripts)]
@@ -113,6 +147,28 @@ use library_standin as _;
 
 /// Whether the library's leaf calls are linked.
 pub const LEAVES: bool = cfg!(library);
+
+/// Whether the library says alone if a record is a pool.
+pub const RECORDS: bool = cfg!(records);
+
+/// Whether a record with these counts (slot rows, directory rows, slots held, directories held), an empty queue and
+/// this counter is a pool.
+#[cfg(records)]
+pub fn record(nums: &[u64], names: &[u8], dirs: &[u8], counts: [usize; 4], counter: u64) -> bool {
+    linked::record(nums, names, dirs, counts, counter) == 1
+}
+
+/// The same face where the library does not say it: `RECORDS` is false, so that this is not reached.
+#[cfg(not(records))]
+pub fn record(
+    _nums: &[u64],
+    _names: &[u8],
+    _dirs: &[u8],
+    _counts: [usize; 4],
+    _counter: u64,
+) -> bool {
+    unreachable!("no record_check was linked")
+}
 
 /// What is missing, in one line, if they are not.
 pub const MISSING: &str = "target/staticlib/libharness.a was not there when this was built";

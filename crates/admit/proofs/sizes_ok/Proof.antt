@@ -1,0 +1,78 @@
+-- Each way out by what its tests say; the length of the queue is its type's.
+use mathlib.Core.Path.{_≡_}
+use Rattle.admit.specs.Test.{sizesOk}
+use borrow.Author.Tests.{le-leb, lt-leb, eq-eqb, ne-eqb}
+use Rattle.admit.proofs.Turns.{and-last}
+use lib.ListN.{length}
+use borrow.Author.Needs.{needs}
+use Rattle.admit.proofs.sizes_ok.Statement.{statement}
+use Rattle.admit.proofs.sizes_ok.Tie as tie
+
+returns : tie.Need-returns
+unfolding sizesOk
+returns c = rw (lt-leb _ _ (c .if1 .taken))
+
+returns-2 : tie.Need-returns-2
+unfolding sizesOk
+returns-2 c = rw (le-leb _ _ (c .before .before .if1 .left), lt-leb _ _ (c .if2 .taken))
+
+returns-3 : tie.Need-returns-3
+unfolding sizesOk
+returns-3 c = rw (le-leb _ _ (c .before .before .before .before .if1 .left), le-leb _ _ (c .before .before .if2 .left), lt-leb _ _ (c .if3 .taken))
+
+returns-4 : tie.Need-returns-4
+unfolding sizesOk
+returns-4 c = rw (le-leb _ _ (c .before .before .before .before .before .before .if1 .left), le-leb _ _ (c .before .before .before .before .if2 .left), le-leb _ _ (c .before .before .if3 .left), lt-leb _ _ (c .if4 .taken))
+
+returns-5 : tie.Need-returns-5
+unfolding sizesOk
+returns-5 c = rw (le-leb _ _ (c .before .before .before .before .before .before .before .before .if1 .left), le-leb _ _ (c .before .before .before .before .before .before .if2 .left), le-leb _ _ (c .before .before .before .before .if3 .left), le-leb _ _ (c .before .before .if4 .left), lt-leb _ _ (c .if5 .taken))
+
+returns-6 : tie.Need-returns-6
+unfolding sizesOk
+returns-6 c = rw (le-leb _ _ (c .before .before .before .before .before .before .before .before .before .before .if1 .left), le-leb _ _ (c .before .before .before .before .before .before .before .before .if2 .left), le-leb _ _ (c .before .before .before .before .before .before .if3 .left), le-leb _ _ (c .before .before .before .before .if4 .left), le-leb _ _ (c .before .before .if5 .left), lt-leb _ _ (c .if6 .taken))
+
+returns-7 : tie.Need-returns-7
+unfolding sizesOk
+returns-7 c = rw (le-leb _ _ (c .before .before .before .before .before .before .before .before .before .before .before .before .if1 .left), le-leb _ _ (c .before .before .before .before .before .before .before .before .before .before .if2 .left), le-leb _ _ (c .before .before .before .before .before .before .before .before .if3 .left), le-leb _ _ (c .before .before .before .before .before .before .if4 .left), le-leb _ _ (c .before .before .before .before .if5 .left), le-leb _ _ (c .before .before .if6 .left), lt-leb _ _ (c .if7 .taken))
+
+mul-if8 : tie.Need-mul-if8
+mul-if8 c = search needs
+
+returns-8 : tie.Need-returns-8
+unfolding sizesOk
+returns-8 c = rw (le-leb _ _ (c .before .before .before .before .before .before .before .before .before .before .before .before .before .if1 .left), le-leb _ _ (c .before .before .before .before .before .before .before .before .before .before .before .if2 .left), le-leb _ _ (c .before .before .before .before .before .before .before .before .before .if3 .left), le-leb _ _ (c .before .before .before .before .before .before .before .if4 .left), le-leb _ _ (c .before .before .before .before .before .if5 .left), le-leb _ _ (c .before .before .before .if6 .left), le-leb _ _ (c .before .if7 .left), ne-eqb _ _ (c .if8 .taken))
+
+mul-if9 : tie.Need-mul-if9
+mul-if9 c = search needs
+
+returns-9 : tie.Need-returns-9
+unfolding sizesOk
+returns-9 c = rw (le-leb _ _ (c .before .before .before .before .before .before .before .before .before .before .before .before .before .before .if1 .left), le-leb _ _ (c .before .before .before .before .before .before .before .before .before .before .before .before .if2 .left), le-leb _ _ (c .before .before .before .before .before .before .before .before .before .before .if3 .left), le-leb _ _ (c .before .before .before .before .before .before .before .before .if4 .left), le-leb _ _ (c .before .before .before .before .before .before .if5 .left), le-leb _ _ (c .before .before .before .before .if6 .left), le-leb _ _ (c .before .before .if7 .left), eq-eqb _ _ (c .before .if8 .left), ne-eqb _ _ (c .if9 .taken))
+
+mul-result : tie.Need-mul-result
+mul-result c = search needs
+
+returns-10 : tie.Need-returns-10
+unfolding sizesOk
+returns-10 c =
+    let w : length (c .before .before .before .before .before .before .before .before .before .before .before .before .before .before .before .before .args .pool .queue) ≡ 64 = search (needs, c .before .before .before .before .before .before .before .before .before .before .before .before .before .before .before .before .good) in
+    rw (le-leb _ _ (c .before .before .before .before .before .before .before .before .before .before .before .before .before .before .if1 .left), le-leb _ _ (c .before .before .before .before .before .before .before .before .before .before .before .before .if2 .left), le-leb _ _ (c .before .before .before .before .before .before .before .before .before .before .if3 .left), le-leb _ _ (c .before .before .before .before .before .before .before .before .if4 .left), le-leb _ _ (c .before .before .before .before .before .before .if5 .left), le-leb _ _ (c .before .before .before .before .if6 .left), le-leb _ _ (c .before .before .if7 .left), eq-eqb _ _ (c .before .if8 .left), eq-eqb _ _ (c .if9 .left)) (and-last _ _ (eq-eqb _ _ w))
+
+pub sizes-ok-spec : {M : Type 1} → statement M
+sizes-ok-spec =
+    tie.close
+    (tie.spec
+    returns
+    returns-2
+    returns-3
+    returns-4
+    returns-5
+    returns-6
+    returns-7
+    mul-if8
+    returns-8
+    mul-if9
+    returns-9
+    mul-result
+    returns-10)

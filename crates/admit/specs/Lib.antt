@@ -1,0 +1,4 @@
+pub mod Test
+pub mod Keys
+pub mod Forms
+pub mod Pools

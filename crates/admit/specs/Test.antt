@@ -1,0 +1,112 @@
+-- Whether lent buffers are a pool (01, "A pool"), as a test: sizes first, then that the buffers hold nothing but their view, then what the view
+-- says. That it is right is `pool-exactly` of Pools.antt.
+use Prim.Native.Nat.{ℕ, _+_, _-_, _*_, _^_}
+use mathlib.Core.List.{List, [], _∷_}
+use mathlib.Core.Bool.{Bool, true, not, cond, _&&_}
+use lib.Dec.{eqb, ltb, leb}
+use lib.ListN.{length, take, drop, getD}
+use Rattle.lists.specs.Runs.{allOf, anyOf}
+use Rattle.lists.specs.Same.{sameBytes}
+use Rattle.le.specs.Le.{le, field}
+use Rattle.text.specs.Text.{isText}
+use Rattle.text.specs.Greatest.{greatest}
+use Rattle.path.specs.Path.{normal, ancestors}
+use Rattle.rows.specs.Rows.{Row, at, isBound, pathOf, genOf, find, rowsOf}
+use Rattle.dirs.specs.Dirs.{hasPath}
+use Rattle.dirs.specs.Rows.{dirAt, dirsOf}
+use Rattle.table.specs.declared.Pool.{Pool}
+use Rattle.table.specs.State.{Bufs}
+
+-- ---- sizes
+
+-- The counts are those of a pool, and the buffers are as long as the record says. A record's queue has 64 cells by its type.
+unfoldable pub sizesOk : Pool → ℕ → ℕ → ℕ → Bool
+sizesOk q l n d =
+    leb (q .rows) 64 && (leb (q .«dir_rows») 256 && (leb (q .held) (q .rows) && (leb (q .dirs) (q .«dir_rows») && (leb (q .free) 64
+    && (leb 1 (q .counter) && (leb (q .counter) (2 ^ 63)
+    && (eqb l (q .rows * 4) && (eqb n (q .rows * 480) && (eqb d (q .«dir_rows» * 482) && eqb (length (q .queue)) 64)))))))))
+
+-- ---- nothing but the view
+
+-- Nothing but zeros.
+unfoldable pub isZero : List ℕ → Bool
+isZero l = eqb (greatest l) 0
+
+-- The part of l from a up to e.
+abbrev pub part : List ℕ → ℕ → ℕ → List ℕ
+part l a e = take (e - a) (drop a l)
+
+-- Rows past the counts are zero, and so are cells past the queue.
+unfoldable pub restOk : Bufs → Bool
+restOk b =
+    isZero (part (b .nums) (b .pool .held * 4) (length (b .nums)))
+    && (isZero (part (b .names) (b .pool .held * 480) (length (b .names)))
+    && (isZero (part (b .dirs) (b .pool .dirs * 482) (length (b .dirs)))
+    && isZero (part (b .pool .queue) (b .pool .free) 64)))
+
+-- An unbound row has no path and no length.
+unfoldable pub bareOk : ℕ → ℕ → ℕ → Bool
+bareOk m k n = cond (eqb m 0) (eqb k 0 && eqb n 0) true
+
+-- Slot row i, of mark m, path length k and file length n, is the row of some slot: the mark is 0, 1 or 2, and the name is zero behind the path.
+unfoldable pub rowFits : List ℕ → List ℕ → ℕ → Bool
+rowFits l s i =
+    leb (getD l (i * 4) 0) 2
+    && (leb (getD l (i * 4 + 1) 0) 480
+    && (bareOk (getD l (i * 4) 0) (getD l (i * 4 + 1) 0) (getD l (i * 4 + 2) 0)
+    && isZero (part s (i * 480 + getD l (i * 4 + 1) 0) (i * 480 + 480))))
+
+-- Directory row j is the row of some directory: a length in two bytes, and zeros behind the spelling.
+unfoldable pub dirFits : List ℕ → ℕ → Bool
+dirFits b j =
+    sameBytes (le 2 (field b (j * 482) 2)) (take 2 (drop (j * 482) b))
+    && (leb (field b (j * 482) 2) 480 && isZero (part b (j * 482 + 2 + field b (j * 482) 2) (j * 482 + 482)))
+
+-- ---- what the view says
+
+-- No other row before i is bound to the path of the bound row i.
+unfoldable pub firstOk : List Row → ℕ → Bool
+firstOk rs i = cond (isBound (at rs i)) (eqb (find (pathOf (at rs i)) rs) i) true
+
+-- Row i is below the counter c, its path is text and held by no other.
+unfoldable pub rowOk : ℕ → List Row → ℕ → Bool
+rowOk c rs i = ltb (genOf (at rs i)) c && (isText (pathOf (at rs i)) && firstOk rs i)
+
+-- Number j of l is x; one of the first k numbers is.
+unfoldable pub isAt : List ℕ → ℕ → ℕ → Bool
+isAt l x j = eqb (getD l j 0) x
+
+abbrev pub hasNum : List ℕ → ℕ → ℕ → Bool
+hasNum l k x = anyOf (isAt l x) 0 k
+
+-- Cell k of the queue is an unbound slot that no cell before it is.
+unfoldable pub cellOk : List Row → List ℕ → ℕ → Bool
+cellOk rs q k =
+    ltb (getD q k 0) (length rs) && (not (isBound (at rs (getD q k 0))) && not (hasNum q k (getD q k 0)))
+
+-- The nearest ancestor, if there is one, is a directory. Then all of them are.
+unfoldable pub firstHeld : List (List ℕ) → List (List ℕ) → Bool
+firstHeld ds [] = true
+firstHeld ds (a ∷ xs) = hasPath ds a
+
+abbrev pub upHeld : List (List ℕ) → List ℕ → Bool
+upHeld ds d = firstHeld ds (ancestors d)
+
+-- Directory j of m is normal, none before it is the same path, and its nearest ancestor is a directory.
+unfoldable pub dirOk : List ℕ → ℕ → ℕ → Bool
+dirOk b m j =
+    sameBytes (normal (dirAt b j)) (dirAt b j) && (not (hasPath (dirsOf b j) (dirAt b j)) && upHeld (dirsOf b m) (dirAt b j))
+
+-- ---- the whole
+
+unfoldable pub fitsOk : Bufs → Bool
+fitsOk b = allOf (rowFits (b .nums) (b .names)) 0 (b .pool .held) && allOf (dirFits (b .dirs)) 0 (b .pool .dirs)
+
+unfoldable pub viewOk : Bufs → Bool
+viewOk b =
+    allOf (rowOk (b .pool .counter) (rowsOf (b .nums) (b .names) (b .pool .held))) 0 (b .pool .held)
+    && (allOf (cellOk (rowsOf (b .nums) (b .names) (b .pool .held)) (b .pool .queue)) 0 (b .pool .free)
+    && allOf (dirOk (b .dirs) (b .pool .dirs)) 0 (b .pool .dirs))
+
+unfoldable pub isPool : Bufs → Bool
+isPool b = sizesOk (b .pool) (length (b .nums)) (length (b .names)) (length (b .dirs)) && (restOk b && (fitsOk b && viewOk b))

@@ -1,0 +1,503 @@
+// Whether a record and its rows are a pool: what refusal 1 of every public call asks (01, "Numbers that come back"). The Rust has no such test:
+// its tables are its own. Nothing is refused here and nothing is taken for granted: any record and any buffers may come.
+// Every lent byte is read, so no loop over bytes has an early exit, and paths are compared only where their keys agree.
+ghost use mathlib.Core.Path.{_≡_};
+ghost use mathlib.Core.Bool.{_||_};
+ghost use Prim.Native.Nat.{_+_, _*_, _≤_, _<_, max};
+ghost use lib.Dec.{eqb};
+ghost use lib.ListN.{length, getD};
+ghost use Rattle.lists.specs.Runs.{allOf};
+ghost use Rattle.lists.specs.Same.{sameBytes};
+ghost use Rattle.text.specs.Greatest.{greatest};
+ghost use Rattle.path.specs.Path.{normal, samePath, keyOf};
+ghost use Rattle.rows.specs.Rows.{at, pathOf, rowsOf, Flat};
+ghost use Rattle.dirs.specs.Dirs.{hasPath};
+ghost use Rattle.dirs.specs.Rows.{dirAt, dirsOf};
+ghost use Rattle.table.specs.State.{bufs};
+ghost use Rattle.admit.specs.Test.{sizesOk, restOk, bareOk, rowFits, dirFits, firstOk, rowOk, hasNum, cellOk, upHeld, dirOk, fitsOk, viewOk, isPool};
+ghost use Rattle.admit.specs.Keys.{Sized, Keys};
+use table::Pool;
+
+// ---- sizes and zeros
+
+// Whether the record's counts are those of a pool with buffers of these lengths.
+fn sizes_ok(pool: Pool, nums: usize, names: usize, dirs: usize) -> bool
+    ensures { λ r. ⌜ r ≡ sizesOk pool nums names dirs ⌝ }
+{
+    if 64 < pool.rows {
+        return false;
+    }
+    if 256 < pool.dir_rows {
+        return false;
+    }
+    if pool.rows < pool.held {
+        return false;
+    }
+    if pool.dir_rows < pool.dirs {
+        return false;
+    }
+    if 64 < pool.free {
+        return false;
+    }
+    if pool.counter < 1 {
+        return false;
+    }
+    if 0x8000_0000_0000_0000 < pool.counter {
+        return false;
+    }
+    let rows = pool.rows;
+    if nums != rows * 4 {
+        return false;
+    }
+    if names != rows * 480 {
+        return false;
+    }
+    let dir_rows = pool.dir_rows;
+    dirs == dir_rows * 482
+}
+
+// The greater of two numbers.
+fn greater(a: u64, b: u64) -> u64
+    ensures { λ r. ⌜ r ≡ max a b ⌝ }
+{
+    if a < b { b } else { a }
+}
+
+// The greatest of some numbers, 0 where there is none.
+fn top(s: &[u64]) -> u64
+    ensures { λ r. ⌜ r ≡ greatest (now (s .entry)) ⌝ }
+{
+    let mut t: u64 = 0;
+    let mut i = 0;
+    while i < s.len() {
+        t = greater(t, s[i]);
+        i += 1;
+    }
+    t
+}
+
+// Whether all is zero behind the rows held and behind the queue.
+fn rest_ok(nums: &[u64], names: &[u8], dirs: &[u8], pool: Pool) -> bool
+    requires { ⌜ Sized pool (length (now nums)) (length (now names)) (length (now dirs)) ⌝ }
+    ensures { λ r. ⌜ r ≡ restOk (bufs pool (now (nums .entry)) (now (names .entry)) (now (dirs .entry))) ⌝ }
+{
+    let n = pool.held;
+    let m = pool.dirs;
+    let free = pool.free;
+    let q = pool.queue;
+    if top(&nums[n * 4..nums.len()]) != 0 {
+        return false;
+    }
+    if text::greatest(&names[n * 480..names.len()]) != 0 {
+        return false;
+    }
+    if text::greatest(&dirs[m * 482..dirs.len()]) != 0 {
+        return false;
+    }
+    text::greatest(&q[free..64]) == 0
+}
+
+// ---- rows that are the form of something
+
+// Whether slot row i is the form of a slot.
+fn row_fits(nums: &[u64], names: &[u8], i: usize) -> bool
+    requires { ⌜ (i * 4 + 4 ≤ length (now nums)) × (i * 480 + 480 ≤ length (now names)) ⌝ }
+    ensures { λ r. ⌜ r ≡ rowFits (now (nums .entry)) (now (names .entry)) i ⌝ }
+{
+    let m = nums[i * 4];
+    let k = nums[i * 4 + 1];
+    let n = nums[i * 4 + 2];
+    if 2 < m {
+        return false;
+    }
+    if 480 < k {
+        return false;
+    }
+    if !bare_ok(m, k, n) {
+        return false;
+    }
+    let from = i * 480;
+    text::greatest(&names[from + k as usize..from + 480]) == 0
+}
+
+// Whether a row of mark m has a path and a length only if it is bound.
+fn bare_ok(m: u64, k: u64, n: u64) -> bool
+    ensures { λ r. ⌜ r ≡ bareOk m k n ⌝ }
+{
+    if m != 0 {
+        return true;
+    }
+    if k != 0 {
+        return false;
+    }
+    n == 0
+}
+
+// Whether each of the first n slot rows is.
+fn rows_fit(nums: &[u64], names: &[u8], n: usize) -> bool
+    requires { ⌜ (n * 4 ≤ length (now nums)) × (n * 480 ≤ length (now names)) ⌝ }
+    ensures { λ r. ⌜ r ≡ allOf (rowFits (now (nums .entry)) (now (names .entry))) 0 n ⌝ }
+{
+    let mut i = 0;
+    while i < n {
+        if !row_fits(nums, names, i) {
+            return false;
+        }
+        i += 1;
+    }
+    true
+}
+
+// Whether directory row j is the form of a directory.
+fn dir_fits(dirs: &[u8], j: usize) -> bool
+    requires { ⌜ j * 482 + 482 ≤ length (now dirs) ⌝ }
+    ensures { λ r. ⌜ r ≡ dirFits (now (dirs .entry)) j ⌝ }
+{
+    let at = j * 482;
+    let k = le::get_at(dirs, at, 2);
+    if 480 < k {
+        return false;
+    }
+    text::greatest(&dirs[at + 2 + k as usize..at + 482]) == 0
+}
+
+// Whether each of the first m directory rows is.
+fn dirs_fit(dirs: &[u8], m: usize) -> bool
+    requires { ⌜ m * 482 ≤ length (now dirs) ⌝ }
+    ensures { λ r. ⌜ r ≡ allOf (dirFits (now (dirs .entry))) 0 m ⌝ }
+{
+    let mut j = 0;
+    while j < m {
+        if !dir_fits(dirs, j) {
+            return false;
+        }
+        j += 1;
+    }
+    true
+}
+
+// Whether the rows held are the forms of slots and of directories.
+fn fits_ok(nums: &[u64], names: &[u8], dirs: &[u8], pool: Pool) -> bool
+    requires { ⌜ Sized pool (length (now nums)) (length (now names)) (length (now dirs)) ⌝ }
+    ensures { λ r. ⌜ r ≡ fitsOk (bufs pool (now (nums .entry)) (now (names .entry)) (now (dirs .entry))) ⌝ }
+{
+    let n = pool.held;
+    let m = pool.dirs;
+    if !rows_fit(nums, names, n) {
+        return false;
+    }
+    dirs_fit(dirs, m)
+}
+
+// ---- slot rows
+
+// Whether there was a hit already, or a is b.
+fn struck(hit: bool, a: u32, b: u32) -> bool
+    ensures { λ r. ⌜ r ≡ (hit || eqb a b) ⌝ }
+{
+    if a == b { true } else { hit }
+}
+
+// Whether one of the first k keys is f.
+fn has_key(keys: &[u32], k: usize, f: u32) -> bool
+    requires { ⌜ k ≤ length (now keys) ⌝ }
+    ensures { λ r. ⌜ r ≡ hasNum (now (keys .entry)) k f ⌝ }
+{
+    let mut hit = false;
+    let mut j = 0;
+    while j < k {
+        hit = struck(hit, keys[j], f);
+        j += 1;
+    }
+    hit
+}
+
+// The key of row i's path.
+fn row_key(nums: &[u64], names: &[u8], cap: usize, n: usize, i: usize) -> u32
+    requires { ⌜ Flat cap n (now nums) (now names) × (i < n) ⌝ }
+    ensures { λ r. ⌜ r ≡ keyOf (pathOf (at (rowsOf (now (nums .entry)) (now (names .entry)) n) i)) ⌝ }
+{
+    let k = rows::path_len(nums, names, cap, n, i);
+    let from = i * 480;
+    path::key(&names[from..from + k])
+}
+
+// The keys of the rows' paths.
+fn row_keys(nums: &[u64], names: &[u8], cap: usize, n: usize, keys: &mut [u32])
+    requires { ⌜ Flat cap n (now nums) (now names) × (n ≤ length (now keys)) ⌝ }
+    ensures { λ _. ⌜ Keys (λ i. pathOf (at (rowsOf (now (nums .entry)) (now (names .entry)) n) i)) n (now (keys .exit)) ⌝ }
+{
+    let mut i = 0;
+    while i < n {
+        keys[i] = row_key(nums, names, cap, n, i);
+        i += 1;
+    }
+}
+
+// Whether row i is unbound, or no row before it has its path. Only where a key before it is the same are paths compared.
+fn first_ok(nums: &[u64], names: &[u8], keys: &[u32], cap: usize, n: usize, i: usize) -> bool
+    requires { ⌜ Flat cap n (now nums) (now names) × Keys (λ j. pathOf (at (rowsOf (now nums) (now names) n) j)) n (now keys) × (i < n) ⌝ }
+    ensures { λ r. ⌜ r ≡ firstOk (rowsOf (now (nums .entry)) (now (names .entry)) n) i ⌝ }
+{
+    if !rows::is_bound(nums, names, cap, n, i) {
+        return true;
+    }
+    if !has_key(keys, i, keys[i]) {
+        return true;
+    }
+    let k = rows::path_len(nums, names, cap, n, i);
+    let from = i * 480;
+    rows::find_row(nums, names, cap, n, &names[from..from + k]) == i
+}
+
+// Whether row i is below the counter c, and its path is text and its own.
+fn row_ok(nums: &[u64], names: &[u8], keys: &[u32], cap: usize, n: usize, c: u64, i: usize) -> bool
+    requires { ⌜ Flat cap n (now nums) (now names) × Keys (λ j. pathOf (at (rowsOf (now nums) (now names) n) j)) n (now keys) × (i < n) ⌝ }
+    ensures { λ r. ⌜ r ≡ rowOk c (rowsOf (now (nums .entry)) (now (names .entry)) n) i ⌝ }
+{
+    if c <= rows::row_generation(nums, names, cap, n, i) {
+        return false;
+    }
+    let k = rows::path_len(nums, names, cap, n, i);
+    let from = i * 480;
+    if !text::is_text(&names[from..from + k]) {
+        return false;
+    }
+    first_ok(nums, names, keys, cap, n, i)
+}
+
+// Whether each row is.
+fn rows_ok(nums: &[u64], names: &[u8], keys: &[u32], cap: usize, n: usize, c: u64) -> bool
+    requires { ⌜ Flat cap n (now nums) (now names) × Keys (λ j. pathOf (at (rowsOf (now nums) (now names) n) j)) n (now keys) ⌝ }
+    ensures { λ r. ⌜ r ≡ allOf (rowOk c (rowsOf (now (nums .entry)) (now (names .entry)) n)) 0 n ⌝ }
+{
+    let mut i = 0;
+    while i < n {
+        if !row_ok(nums, names, keys, cap, n, c, i) {
+            return false;
+        }
+        i += 1;
+    }
+    true
+}
+
+// The same, with the keys worked out here.
+fn slots_ok(nums: &[u64], names: &[u8], cap: usize, n: usize, c: u64) -> bool
+    requires { ⌜ Flat cap n (now nums) (now names) × (n ≤ 64) ⌝ }
+    ensures { λ r. ⌜ r ≡ allOf (rowOk c (rowsOf (now (nums .entry)) (now (names .entry)) n)) 0 n ⌝ }
+{
+    let mut keys = [0u32; 64];
+    row_keys(nums, names, cap, n, &mut keys);
+    rows_ok(nums, names, &keys, cap, n, c)
+}
+
+// ---- the queue
+
+// Whether one of the first k cells is x.
+fn has_cell(q: [u8; 64], k: usize, x: u8) -> bool
+    requires { ⌜ k ≤ 64 ⌝ }
+    ensures { λ r. ⌜ r ≡ hasNum q k x ⌝ }
+{
+    let mut hit = false;
+    let mut j = 0;
+    while j < k {
+        hit = struck(hit, q[j] as u32, x as u32);
+        j += 1;
+    }
+    hit
+}
+
+// Whether cell k is an unbound slot that no cell before it is.
+fn cell_ok(nums: &[u64], names: &[u8], cap: usize, n: usize, q: [u8; 64], k: usize) -> bool
+    requires { ⌜ Flat cap n (now nums) (now names) × (k < 64) ⌝ }
+    ensures { λ r. ⌜ r ≡ cellOk (rowsOf (now (nums .entry)) (now (names .entry)) n) q k ⌝ }
+{
+    let x = q[k];
+    let i = x as usize;
+    if n <= i {
+        return false;
+    }
+    if rows::is_bound(nums, names, cap, n, i) {
+        return false;
+    }
+    !has_cell(q, k, x)
+}
+
+// Whether each cell of the queue is.
+fn cells_ok(nums: &[u64], names: &[u8], cap: usize, n: usize, q: [u8; 64], free: usize) -> bool
+    requires { ⌜ Flat cap n (now nums) (now names) × (free ≤ 64) ⌝ }
+    ensures { λ r. ⌜ r ≡ allOf (cellOk (rowsOf (now (nums .entry)) (now (names .entry)) n) q) 0 free ⌝ }
+{
+    let mut k = 0;
+    while k < free {
+        if !cell_ok(nums, names, cap, n, q, k) {
+            return false;
+        }
+        k += 1;
+    }
+    true
+}
+
+// ---- directories
+
+// The key of directory j.
+fn dir_key(dirs: &[u8], j: usize) -> u32
+    requires { ⌜ j * 482 + 482 ≤ length (now dirs) ⌝ }
+    ensures { λ r. ⌜ r ≡ keyOf (dirAt (now (dirs .entry)) j) ⌝ }
+{
+    let k = dirs::dir_len(dirs, j);
+    let at = j * 482 + 2;
+    path::key(&dirs[at..at + k])
+}
+
+// The keys of the directories.
+fn dir_keys(dirs: &[u8], m: usize, keys: &mut [u32])
+    requires { ⌜ (m * 482 ≤ length (now dirs)) × (m ≤ length (now keys)) ⌝ }
+    ensures { λ _. ⌜ Keys (dirAt (now (dirs .entry))) m (now (keys .exit)) ⌝ }
+{
+    let mut j = 0;
+    while j < m {
+        keys[j] = dir_key(dirs, j);
+        j += 1;
+    }
+}
+
+// Whether directory j is p, whose key is f.
+fn dir_is(dirs: &[u8], keys: &[u32], j: usize, f: u32, p: &[u8]) -> bool
+    requires { ⌜ (j * 482 + 482 ≤ length (now dirs)) × (j < length (now keys)) × (getD (now keys) j 0 ≡ keyOf (dirAt (now dirs) j)) × (f ≡ keyOf (now p)) ⌝ }
+    ensures { λ r. ⌜ r ≡ samePath (dirAt (now (dirs .entry)) j) (now (p .entry)) ⌝ }
+{
+    if keys[j] != f {
+        return false;
+    }
+    let k = dirs::dir_len(dirs, j);
+    let at = j * 482 + 2;
+    path::same_path(&dirs[at..at + k], p)
+}
+
+// Whether p is one of the first m directories.
+fn has_dir(dirs: &[u8], keys: &[u32], m: usize, p: &[u8]) -> bool
+    requires { ⌜ (m * 482 ≤ length (now dirs)) × Keys (dirAt (now dirs)) m (now keys) ⌝ }
+    ensures { λ r. ⌜ r ≡ hasPath (dirsOf (now (dirs .entry)) m) (now (p .entry)) ⌝ }
+{
+    let f = path::key(p);
+    let mut j = 0;
+    while j < m {
+        if dir_is(dirs, keys, j, f, p) {
+            return true;
+        }
+        j += 1;
+    }
+    false
+}
+
+// Whether a directory before j, whose path is p, is the same path.
+fn seen_before(dirs: &[u8], keys: &[u32], m: usize, j: usize, p: &[u8]) -> bool
+    requires { ⌜ (m * 482 ≤ length (now dirs)) × Keys (dirAt (now dirs)) m (now keys) × (j < m) × (now p ≡ dirAt (now dirs) j) ⌝ }
+    ensures { λ r. ⌜ r ≡ hasPath (dirsOf (now (dirs .entry)) j) (now (p .entry)) ⌝ }
+{
+    if !has_key(keys, j, keys[j]) {
+        return false;
+    }
+    has_dir(dirs, keys, j, p)
+}
+
+// Whether x is in normal spelling.
+fn is_normal(x: &[u8]) -> bool
+    requires { ⌜ length (now x) ≤ 480 ⌝ }
+    ensures { λ r. ⌜ r ≡ sameBytes (normal (now (x .entry))) (now (x .entry)) ⌝ }
+{
+    let mut b = [0u8; 480];
+    let k = path::normalize(x, &mut b);
+    path::same_bytes(&b[..k], x)
+}
+
+// Whether the nearest ancestor of x, if it has one, is a directory.
+fn up_held(dirs: &[u8], keys: &[u32], m: usize, x: &[u8]) -> bool
+    requires { ⌜ (m * 482 ≤ length (now dirs)) × Keys (dirAt (now dirs)) m (now keys) ⌝ }
+    ensures { λ r. ⌜ r ≡ upHeld (dirsOf (now (dirs .entry)) m) (now (x .entry)) ⌝ }
+{
+    let e = path::above(x);
+    if e == 0 {
+        return true;
+    }
+    has_dir(dirs, keys, m, &x[..e])
+}
+
+// Whether directory j is normal, the first of its path, and its nearest ancestor a directory.
+fn dir_ok(dirs: &[u8], keys: &[u32], m: usize, j: usize) -> bool
+    requires { ⌜ (m * 482 ≤ length (now dirs)) × Keys (dirAt (now dirs)) m (now keys) × (j < m) ⌝ }
+    ensures { λ r. ⌜ r ≡ dirOk (now (dirs .entry)) m j ⌝ }
+{
+    let k = dirs::dir_len(dirs, j);
+    let at = j * 482 + 2;
+    if !is_normal(&dirs[at..at + k]) {
+        return false;
+    }
+    if seen_before(dirs, keys, m, j, &dirs[at..at + k]) {
+        return false;
+    }
+    up_held(dirs, keys, m, &dirs[at..at + k])
+}
+
+// Whether each directory is.
+fn dirs_ok(dirs: &[u8], keys: &[u32], m: usize) -> bool
+    requires { ⌜ (m * 482 ≤ length (now dirs)) × Keys (dirAt (now dirs)) m (now keys) ⌝ }
+    ensures { λ r. ⌜ r ≡ allOf (dirOk (now (dirs .entry)) m) 0 m ⌝ }
+{
+    let mut j = 0;
+    while j < m {
+        if !dir_ok(dirs, keys, m, j) {
+            return false;
+        }
+        j += 1;
+    }
+    true
+}
+
+// The same, with the keys worked out here.
+fn directories_ok(dirs: &[u8], m: usize) -> bool
+    requires { ⌜ (m * 482 ≤ length (now dirs)) × (m ≤ 256) ⌝ }
+    ensures { λ r. ⌜ r ≡ allOf (dirOk (now (dirs .entry)) m) 0 m ⌝ }
+{
+    let mut keys = [0u32; 256];
+    dir_keys(dirs, m, &mut keys);
+    dirs_ok(dirs, &keys, m)
+}
+
+// ---- the whole
+
+// Whether what the buffers hold is as a pool's should be.
+fn view_ok(nums: &[u64], names: &[u8], dirs: &[u8], pool: Pool) -> bool
+    requires { ⌜ Sized pool (length (now nums)) (length (now names)) (length (now dirs)) × Flat (pool .rows) (pool .held) (now nums) (now names) ⌝ }
+    ensures { λ r. ⌜ r ≡ viewOk (bufs pool (now (nums .entry)) (now (names .entry)) (now (dirs .entry))) ⌝ }
+{
+    let cap = pool.rows;
+    let n = pool.held;
+    let m = pool.dirs;
+    let free = pool.free;
+    let q = pool.queue;
+    if !slots_ok(nums, names, cap, n, pool.counter) {
+        return false;
+    }
+    if !cells_ok(nums, names, cap, n, q, free) {
+        return false;
+    }
+    directories_ok(dirs, m)
+}
+
+// Whether the record and its rows are a pool.
+pub fn pool_ok(nums: &[u64], names: &[u8], dirs: &[u8], pool: Pool) -> bool
+    ensures { λ r. ⌜ r ≡ isPool (bufs pool (now (nums .entry)) (now (names .entry)) (now (dirs .entry))) ⌝ }
+{
+    if !sizes_ok(pool, nums.len(), names.len(), dirs.len()) {
+        return false;
+    }
+    if !rest_ok(nums, names, dirs, pool) {
+        return false;
+    }
+    if !fits_ok(nums, names, dirs, pool) {
+        return false;
+    }
+    view_ok(nums, names, dirs, pool)
+}
