@@ -1,0 +1,2 @@
+pub mod Install
+pub mod Laws

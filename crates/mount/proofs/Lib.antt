@@ -1,0 +1,3 @@
+pub mod Draining
+pub mod Adopting
+pub mod Mounting

@@ -1,0 +1,4 @@
+pub mod Mount
+pub mod Scan
+pub mod Keeps
+pub mod Laws

@@ -1,0 +1,223 @@
+// Mount and adopt of pool.rs (`new`, `adopt_slots` over `install`): the headers of new slots are read, the claims take their rows, and the
+// losers are released. Refused are 12 (more slots than rows or device), 10 from a header read, 8 and 9; nothing of the pool has changed then.
+// That the buffers are a pool on its device, and the shapes, the caller has seen.
+use device::Geometry;
+use device::Place;
+use steps::Stepped;
+use table::Pool;
+ghost use mathlib.Core.Path.{_≡_};
+ghost use Prim.Native.Nat.{_*_, _≤_, max};
+ghost use lib.ListN.{length, take};
+ghost use Rattle.device.specs.Device.{dev, Shape};
+ghost use Rattle.table.specs.State.{bufs, poolOf};
+ghost use Rattle.steps.specs.World.{lent, viewW, flatW, Ready};
+ghost use Rattle.mount.specs.Mount.{drain, done, flatC, adoptM, emptyState, mountM, zeroPool, mounted};
+ghost use Rattle.mount.specs.Laws.{Due};
+
+// The number that an adoption came to, the place after it, and the pool's record.
+pub struct Adopted {
+    pub out: u8,
+    pub place: Place,
+    pub pool: Pool,
+}
+
+// Releases the losers in their order; a release that fails is passed over.
+pub fn drain(
+    bytes: &mut [u8],
+    phys: &mut [u64],
+    geometry: Geometry,
+    plan: &[u8],
+    place: Place,
+    nums: &mut [u64],
+    names: &mut [u8],
+    dirs: &[u8],
+    pool: Pool,
+    losers: [u8; 64],
+    count: usize,
+) -> Stepped
+    requires { ⌜ Ready geometry (lent (dev (now bytes) (now phys) place) (bufs pool (now nums) (now names) (now dirs))) ⌝ }
+    requires { ⌜ (count ≤ 64) × Due (take count losers) (viewW (lent (dev (now bytes) (now phys) place) (bufs pool (now nums) (now names) (now dirs)))) ⌝ }
+    ensures { λ r. ⌜ lent (dev (now (bytes .exit)) (now (phys .exit)) (r .place)) (bufs (r .pool) (now (nums .exit)) (now (names .exit)) (now (dirs .entry))) ≡ flatW (drain (now (plan .entry)) geometry (take count losers) (viewW (lent (dev (now (bytes .entry)) (now (phys .entry)) place) (bufs pool (now (nums .entry)) (now (names .entry)) (now (dirs .entry)))))) ⌝ }
+{
+    let mut at = place;
+    let mut q = pool;
+    let mut i = 0;
+    while i < count {
+        let loser = losers[i] as usize;
+        let s = steps::release(bytes, phys, geometry, plan, at, nums, names, dirs, q, loser);
+        at = s.place;
+        q = s.pool;
+        i += 1;
+    }
+    Stepped { place: at, pool: q }
+}
+
+// The later of two generations.
+fn later(a: u64, b: u64) -> u64
+    ensures { λ r. ⌜ r ≡ max a b ⌝ }
+{
+    if a < b {
+        return b;
+    }
+    a
+}
+
+// Takes k more slots of the device into the pool.
+pub fn adopt(
+    bytes: &mut [u8],
+    phys: &mut [u64],
+    geometry: Geometry,
+    plan: &[u8],
+    place: Place,
+    nums: &mut [u64],
+    names: &mut [u8],
+    dirs: &mut [u8],
+    pool: Pool,
+    k: usize,
+) -> Adopted
+    requires { ⌜ Ready geometry (lent (dev (now bytes) (now phys) place) (bufs pool (now nums) (now names) (now dirs))) ⌝ }
+    ensures { λ r. ⌜ done (r .out) (lent (dev (now (bytes .exit)) (now (phys .exit)) (r .place)) (bufs (r .pool) (now (nums .exit)) (now (names .exit)) (now (dirs .exit)))) ≡ flatC (adoptM (now (plan .entry)) geometry k (viewW (lent (dev (now (bytes .entry)) (now (phys .entry)) place) (bufs pool (now (nums .entry)) (now (names .entry)) (now (dirs .entry)))))) ⌝ }
+{
+    let cap = pool.rows;
+    let n = pool.held;
+    if cap - n < k {
+        return Adopted {
+            out: 12,
+            place: place,
+            pool: pool,
+        };
+    }
+    if phys.len() - n < k {
+        return Adopted {
+            out: 12,
+            place: place,
+            pool: pool,
+        };
+    }
+    let staged = survey::stage(bytes, phys, geometry, plan, place, nums, names, cap, n, k);
+    let at = staged.place;
+    let failed = staged.failed;
+    if failed {
+        return Adopted {
+            out: 10,
+            place: at,
+            pool: pool,
+        };
+    }
+    let m = n + k;
+    let losers = survey::find_losers(nums, names, cap, n, m);
+    let list = losers.list;
+    let count = losers.count;
+    let asked = staged.asked;
+    let counter = later(pool.counter, asked);
+    let accepted = install::accept(nums, names, dirs, pool, m, counter, count);
+    let out = accepted.out;
+    if out != 0 {
+        return Adopted {
+            out: out,
+            place: at,
+            pool: pool,
+        };
+    }
+    let d = accepted.dirs;
+    let held = install::install(nums, names, pool, m, d, counter, list, count);
+    let drained = drain(
+        bytes,
+        phys,
+        geometry,
+        plan,
+        at,
+        nums,
+        names,
+        dirs,
+        held,
+        list,
+        count,
+    );
+    let end = drained.place;
+    let last = drained.pool;
+    Adopted {
+        out: 0,
+        place: end,
+        pool: last,
+    }
+}
+
+// ---- mount
+
+// The record of a pool of no slots.
+fn empty(cap: usize, dir_cap: usize) -> Pool
+    ensures { λ r. ⌜ r ≡ poolOf (emptyState cap «dir_cap») ⌝ }
+{
+    Pool {
+        rows: cap,
+        dir_rows: dir_cap,
+        held: 0,
+        dirs: 0,
+        counter: 1,
+        free: 0,
+        queue: [0u8; 64],
+    }
+}
+
+// The record that a refused mount leaves, which is no pool.
+fn zero() -> Pool
+    ensures { λ r. ⌜ r ≡ zeroPool ⌝ }
+{
+    Pool {
+        rows: 0,
+        dir_rows: 0,
+        held: 0,
+        dirs: 0,
+        counter: 0,
+        free: 0,
+        queue: [0u8; 64],
+    }
+}
+
+// Mounts the first k slots of the device in rows of the right number: whatever the rows held is gone, and a refusal leaves the record and
+// the rows zero.
+pub fn mount_rows(
+    bytes: &mut [u8],
+    phys: &mut [u64],
+    geometry: Geometry,
+    plan: &[u8],
+    place: Place,
+    nums: &mut [u64],
+    names: &mut [u8],
+    dirs: &mut [u8],
+    cap: usize,
+    dir_cap: usize,
+    k: usize,
+) -> Adopted
+    requires { ⌜ Shape geometry (now bytes) (now phys) × (cap ≤ 64) × («dir_cap» ≤ 256) ⌝ }
+    requires { ⌜ (length (now nums) ≡ cap * 4) × (length (now names) ≡ cap * 480) × (length (now dirs) ≡ «dir_cap» * 482) ⌝ }
+    ensures { λ r. ⌜ done (r .out) (lent (dev (now (bytes .exit)) (now (phys .exit)) (r .place)) (bufs (r .pool) (now (nums .exit)) (now (names .exit)) (now (dirs .exit)))) ≡ mounted (mountM (now (plan .entry)) geometry cap «dir_cap» k (dev (now (bytes .entry)) (now (phys .entry)) place)) ⌝ }
+{
+    rows::clear_rows(nums, names);
+    let d = dirs.len();
+    rows::zero_in(dirs, 0, d);
+    let pool = empty(cap, dir_cap);
+    let adopted = adopt(
+        bytes,
+        phys,
+        geometry,
+        plan,
+        place,
+        nums,
+        names,
+        dirs,
+        pool,
+        k,
+    );
+    let out = adopted.out;
+    if out != 0 {
+        let at = adopted.place;
+        return Adopted {
+            out: out,
+            place: at,
+            pool: zero(),
+        };
+    }
+    adopted
+}

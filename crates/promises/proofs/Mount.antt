@@ -1,0 +1,65 @@
+-- A mount of a device is the model's: adopt on the empty pool.
+use Prim.Native.Nat.{ℕ, _≤_, min}
+use native.Mathlib.Omega.{arith}
+use mathlib.Core.Path.{_≡_, sym, subst}
+use mathlib.Core.List.{List, [], List·Memᴰ·not-nil}
+use lib.ListN.{length}
+use Rattle.lists.specs.Distinct.Distinct.{none}
+use Rattle.device.specs.declared.Geometry.{Geometry}
+use Rattle.device.specs.Device.{Dev, Shape}
+use Rattle.dirs.specs.Dirs.{Dirs}
+use Rattle.steps.specs.World.{World, world}
+use Rattle.mount.specs.Mount.{came, emptyState, mountM}
+use Rattle.model.specs.Model.{Kit}
+use Rattle.model.specs.Model as M
+use Rattle.model.specs.Best as B
+use Rattle.model.specs.Promise as P
+use Rattle.model.proofs.Pool.{mount-pool}
+use Rattle.model.proofs.Winner.{rule}
+use Rattle.promises.specs.Demand3.{headerAt, Untouched, Rule, NoneFails}
+use Rattle.promises.proofs.Kit.{planned, realKit}
+use Rattle.promises.proofs.Adopt.{Runs, done, accepted-is, accepted-runs, came-accepts}
+use Rattle.promises.proofs.Words.{rule-is, none-is}
+
+-- no pool has no directories
+pub empty-dirs : (cap dirCap : ℕ) → Dirs (emptyState cap dirCap .dirs)
+unfolding emptyState
+empty-dirs cap dirCap = record { normals = λ d m. absurd (List·Memᴰ·not-nil m); once = none; closed = λ d a m k. absurd (List·Memᴰ·not-nil m) }
+
+module _ (g : Geometry) (plan : List ℕ) (cap dirCap k : ℕ) (d : Dev) (s : Shape g (d .bytes) (d .phys)) (u : Untouched plan k (d .place)) where
+  abbrev K : Kit
+  K = realKit g
+
+  abbrev start : World
+  start = world d (emptyState cap dirCap)
+
+  pub mount-runs : (slots : ℕ) → slots ≤ cap → slots ≤ length (d .phys) → M.Accepts K slots dirCap k (M.empty K (planned plan d))
+      → Runs g plan start (mountM plan g cap dirCap k d) (M.mount K k (planned plan d))
+  unfolding mountM emptyState M.mount
+  mount-runs slots a b A = accepted-runs g plan k start s (empty-dirs cap dirCap) u slots [] a b A
+
+  pub mount-accepts : mountM plan g cap dirCap k d .out ≡ 0 → M.Accepts K (min cap (length (d .phys))) dirCap k (M.empty K (planned plan d))
+  unfolding mountM emptyState
+  mount-accepts z = came-accepts g plan k start s (empty-dirs cap dirCap) u [] (omega arith) (omega arith) z
+
+  pub mount-room : mountM plan g cap dirCap k d .out ≡ 0 → k ≤ length (d .phys)
+  mount-room z = omega (arith, mount-accepts z .slots-fit)
+
+  pub mount-none : k ≤ length (d .phys) → NoneFails plan g k start → P.NoneFails K k (M.empty K (planned plan d))
+  unfolding emptyState
+  mount-none l f = none-is g plan k start s (empty-dirs cap dirCap) u (omega arith) [] f
+
+  -- the device and the pool that a mount that came to 0 leaves
+  pub mount-is : mountM plan g cap dirCap k d .out ≡ 0 → mountM plan g cap dirCap k d ≡ came 0 (done g plan k start s (empty-dirs cap dirCap) u)
+  unfolding mountM emptyState
+  mount-is z = accepted-is g plan k start s (empty-dirs cap dirCap) u (min cap (length (d .phys))) [] (omega arith) (omega arith) (mount-accepts z)
+
+  pub mount-rule : mountM plan g cap dirCap k d .out ≡ 0 → Rule (headerAt g d) k (mountM plan g cap dirCap k d .world .state .rows)
+  mount-rule z =
+      let w = planned plan d in
+      let slots = min cap (length (d .phys)) in
+      let A = mount-accepts z in
+      let R = mount-runs slots (omega arith) (omega arith) A in
+      let P = mount-pool K slots k w (s, omega arith) (omega (arith, A .slots-fit)) in
+      rule-is g (headerAt g d) k (mountM plan g cap dirCap k d .world .state .rows)
+      (subst (λ (x : M.State K). B.Rule K (K .head w) k (x .rows)) (sym (R .shows)) (rule K (P .fit .holders) k (P .size)))

@@ -1,0 +1,279 @@
+-- The promises of specs/Demand3.antt. The model's demand carries them: Adopt says that each call is the model's, and Words puts what is promised of the model
+-- into the words of real rows and headers.
+use Prim.Native.Nat.{ℕ, _+_, _≤_, min}
+use native.Mathlib.Omega.{arith}
+use mathlib.Core.Path.{_≡_, refl, sym, ap, subst, _∙_}
+use mathlib.Core.List.{List, []}
+use lib.ListN.{length}
+use Rattle.device.specs.declared.Geometry.{Geometry}
+use Rattle.device.specs.Device.{Dev, dev, Shape}
+use Rattle.steps.specs.World.{World, world}
+use Rattle.table.specs.State.{State}
+use Rattle.mount.specs.Mount.{Came, came, emptyState, mountM}
+use Rattle.model.specs.Model.{Kit}
+use Rattle.model.specs.Model as M
+use Rattle.model.specs.Best as B
+use Rattle.model.specs.Promise as P
+use Rattle.model.proofs.Pool.{Pool, mount-pool}
+use Rattle.model.proofs.Split.{both-pool}
+use Rattle.model.proofs.Card.{Card, mount-card, adopt-card}
+use Rattle.model.proofs.Queue.{Calm, mount-calm, adopt-calm}
+use Rattle.model.proofs.Theorem.{demand-of-all, again-whatever-fails}
+use Rattle.promises.specs.Demand3.{headerAt, Untouched, SameFiles, SameDirs, SameFree, NoneFails, Again, Trial, headers, first, second, whole, part, both, QuietWhole, QuietBoth, Given, Below62, TheRule, SplitIsOneMount, FreeSlotsSame, AgainWhole, AgainBoth, Demand3, Demand3OfAll}
+use Rattle.promises.proofs.Kit.{Planned, planned, realKit}
+use Rattle.promises.proofs.Bridge.{plain, map-length, shownW}
+use Rattle.promises.proofs.Adopt.{Runs, accepted-runs}
+use Rattle.promises.proofs.Mount.{mount-runs, mount-accepts, mount-none}
+use Rattle.promises.proofs.Again.{turned, next-accepts, next-files, next-dirs, next-free}
+use Rattle.promises.proofs.Words.{asks-is, rule-is, registered-are, files-are, dirs-are, free-are, none-is}
+
+-- ---- two calls that are the model's
+
+module _ (g : Geometry) (p q : List ℕ) {v w : World} {a b : Came} {x y : M.State (realKit g)} (R : Runs g p v a x) (S : Runs g q w b y) where
+  both-shown : (Q : M.State (realKit g) → M.State (realKit g) → Type 0) → Q x y → Q (shownW g p (R .losers) (a .world)) (shownW g q (S .losers) (b .world))
+  both-shown Q h = subst (λ z. Q z (shownW g q (S .losers) (b .world))) (sym (R .shows)) (subst (Q x) (sym (S .shows)) h)
+
+  files-of : P.SameFiles (realKit g) x y → SameFiles (a .world .state) (b .world .state)
+  files-of h = files-are g p q (R .losers) (S .losers) (a .world) (b .world) (both-shown (P.SameFiles (realKit g)) h)
+
+  dirs-of : P.SameDirs (realKit g) x y → SameDirs (a .world .state) (b .world .state)
+  dirs-of h = dirs-are g p q (R .losers) (S .losers) (a .world) (b .world) (both-shown (P.SameDirs (realKit g)) h)
+
+  free-of : P.SameFree (realKit g) x y → SameFree (a .world .state) (b .world .state)
+  free-of h = free-are g p q (R .losers) (S .losers) (a .world) (b .world) (both-shown (P.SameFree (realKit g)) h)
+
+-- ---- a trial
+
+module _ (t : Trial) (G : Given t) where
+  abbrev g : Geometry
+  g = t .geometry
+
+  abbrev K′ : Kit
+  K′ = realKit g
+
+  abbrev deviceOne : Planned
+  deviceOne = planned (t .one) (first t .dev)
+
+  abbrev deviceTwo : Planned
+  deviceTwo = planned (t .two) (second t .dev)
+
+  abbrev slots : ℕ
+  slots = min (t .cap) (length (t .phys))
+
+  abbrev modelWhole : M.State K′
+  modelWhole = M.mount K′ (t .n + t .m) deviceOne
+
+  abbrev modelPart : M.State K′
+  modelPart = M.mount K′ (t .n) deviceTwo
+
+  abbrev modelBoth : M.State K′
+  modelBoth = M.adopt K′ (t .m) modelPart
+
+  abbrev Has : Planned → Type 0
+  Has w = Shape g (w .dev .bytes) (w .dev .phys) × (slots ≤ length (w .dev .phys))
+
+  has : Has deviceOne
+  has = (G .shape, omega arith)
+
+  accepts : M.Accepts K′ slots (t .dirCap) (t .n + t .m) (M.empty K′ deviceOne)
+  accepts = mount-accepts g (t .one) (t .cap) (t .dirCap) (t .n + t .m) (first t .dev) (G .shape) (G .reads-whole) (G .accepted)
+
+  room : t .n + t .m ≤ slots
+  room = omega (arith, accepts .slots-fit)
+
+  kept : P.Kept K′ (t .n) (t .m) deviceOne deviceTwo slots (t .dirCap)
+  unfolding P.DemandOfAll headerAt
+  kept = demand-of-all K′ slots (t .dirCap) (t .n) (t .m) deviceOne deviceTwo has has (λ i l. refl) accepts
+
+  returns : P.Returns K′ slots (t .dirCap) (t .n + t .m) deviceOne modelWhole × P.Returns K′ slots (t .dirCap) (t .n + t .m) deviceOne modelBoth
+  unfolding P.AgainWhateverFails headerAt
+  returns = again-whatever-fails K′ slots (t .dirCap) (t .n) (t .m) deviceOne deviceTwo has has (λ i l. refl) accepts
+
+  -- each call is the model's
+  whole-runs : Runs g (t .one) (first t) (whole t) modelWhole
+  whole-runs = mount-runs g (t .one) (t .cap) (t .dirCap) (t .n + t .m) (first t .dev) (G .shape) (G .reads-whole) slots (omega arith) (omega arith) accepts
+
+  part-runs : Runs g (t .two) (second t) (part t) modelPart
+  part-runs = mount-runs g (t .two) (t .cap) (t .dirCap) (t .n) (second t .dev) (G .shape) (G .reads-part) slots (omega arith) (omega arith) (kept .part-accepted)
+
+  -- the device that a call left
+  left : {plan : List ℕ} {w : World} {c : Came} {s : M.State K′} → Runs g plan w c s → planned plan (c .world .dev) ≡ s .device
+  left R = ap (λ (x : M.State K′). x .device) (R .shows)
+
+  left-has : {plan : List ℕ} {w : World} {c : Came} {s : M.State K′} → Runs g plan w c s → Has (s .device) → Has (planned plan (c .world .dev))
+  left-has R h = subst Has (sym (left R)) h
+
+  part-pool : Pool K′ slots (K′ .head deviceTwo) (t .n) modelPart
+  part-pool = mount-pool K′ slots (t .n) deviceTwo has (omega (arith, room))
+
+  part-has : Has (planned (t .two) (part t .world .dev))
+  part-has = left-has part-runs (part-pool .fit .has)
+
+  part-cap : part t .world .state .cap ≡ t .cap
+  unfolding emptyState
+  part-cap = part-runs .cap
+
+  part-dirCap : part t .world .state .dirCap ≡ t .dirCap
+  unfolding emptyState
+  part-dirCap = part-runs .dirCap
+
+  part-shown : M.Accepts K′ slots (part t .world .state .dirCap) (t .m) (shownW g (t .two) (part-runs .losers) (part t .world))
+  part-shown = rw part-dirCap (subst (M.Accepts K′ slots (t .dirCap) (t .m)) (sym (part-runs .shows)) (kept .both-accepted))
+
+  both-runs : Runs g (t .two) (part t .world) (both t) modelBoth
+  both-runs =
+      subst (λ (x : M.State K′). Runs g (t .two) (part t .world) (both t) (M.adopt K′ (t .m) x)) (part-runs .shows)
+      (accepted-runs g (t .two) (t .m) (part t .world) (part-has .0) (part-runs .dirs) (G .reads-both) slots (part-runs .losers) (omega (arith, part-cap)) (part-has .1) part-shown)
+
+  -- ---- the rule, and the split
+
+  pub rules : TheRule t
+  rules =
+      let H = headers t in
+      let k = t .n + t .m in
+      let R = whole-runs in
+      let S = both-runs in
+      record {
+        rule-whole = rule-is g H k (whole t .world .state .rows) (subst (λ (x : M.State K′). B.Rule K′ (K′ .head deviceOne) k (x .rows)) (sym (R .shows)) (kept .rule-whole));
+        rule-both = rule-is g H k (both t .world .state .rows) (subst (λ (x : M.State K′). B.Rule K′ (K′ .head deviceOne) k (x .rows)) (sym (S .shows)) (kept .rule-both));
+        dirs-whole = registered-are g H k (whole t .world .state .dirs) (subst (λ (x : M.State K′). B.Registered K′ (K′ .head deviceOne) k (x .dirs)) (sym (R .shows)) (kept .registered-whole));
+        dirs-both = registered-are g H k (both t .world .state .dirs) (subst (λ (x : M.State K′). B.Registered K′ (K′ .head deviceOne) k (x .dirs)) (sym (S .shows)) (kept .registered-both));
+      }
+
+  pub split : SplitIsOneMount t
+  split =
+      let dirs : M.State K′ → List (List ℕ) = λ x. x .dirs in
+      record {
+        part-accepted = part-runs .out;
+        both-accepted = both-runs .out;
+        files = files-of g (t .two) (t .one) both-runs whole-runs (kept .files);
+        dirs = ap dirs (both-runs .shows) ∙ kept .dirs ∙ sym (ap dirs (whole-runs .shows));
+      }
+
+  -- ---- where none fails
+
+  quiet-whole : QuietWhole t → P.NoneFails K′ (t .n + t .m) (M.empty K′ deviceOne)
+  quiet-whole = mount-none g (t .one) (t .cap) (t .dirCap) (t .n + t .m) (first t .dev) (G .shape) (G .reads-whole) (omega (arith, room))
+
+  quiet-part : QuietBoth t → P.NoneFails K′ (t .n) (M.empty K′ deviceTwo)
+  quiet-part q = mount-none g (t .two) (t .cap) (t .dirCap) (t .n) (second t .dev) (G .shape) (G .reads-part) (omega (arith, room)) (q .0)
+
+  quiet-both : QuietBoth t → P.NoneFails K′ (t .m) modelPart
+  quiet-both q =
+      let n = map-length plain (part t .world .state .rows) in
+      subst (P.NoneFails K′ (t .m)) (part-runs .shows)
+      (none-is g (t .two) (t .m) (part t .world) (part-has .0) (part-runs .dirs) (G .reads-both) (omega (arith, n, part-shown .slots-fit, part-has .1)) (part-runs .losers) (q .1))
+
+  pub free-same : FreeSlotsSame t
+  unfolding FreeSlotsSame
+  free-same q r = free-of g (t .two) (t .one) both-runs whole-runs (kept .free (quiet-whole q) (quiet-part r) (quiet-both r))
+
+  -- ---- mounting again
+
+  module _ {plan : List ℕ} {w : World} {c : Came} {s : M.State K′} (R : Runs g plan w c s) (H : ℕ → M.Head (List ℕ)) (Q : Pool K′ slots H (t .n + t .m) s) (C : Card K′ H s)
+      (D : B.Registered K′ H (t .n + t .m) (s .dirs)) (u : Untouched (t .three) (t .n + t .m) (t .later)) where
+    abbrev k : ℕ
+    k = t .n + t .m
+
+    -- the device that the call left, under the third plan, and mounted
+    abbrev later : Dev
+    later = dev (c .world .dev .bytes) (c .world .dev .phys) (t .later)
+
+    abbrev again : Came
+    again = mountM (t .three) g (t .cap) (t .dirCap) k later
+
+    abbrev turn : M.State K′ → M.State K′
+    turn = turned g (t .three) (t .later)
+
+    turned-runs : Runs g (t .three) w (came 0 (world later (c .world .state))) (turn s)
+    turned-runs = record { out = refl; losers = R .losers; shows = ap turn (R .shows); cap = R .cap; dirCap = R .dirCap; dirs = R .dirs }
+
+    again-from : (Quiet : Type 0) → M.Accepts K′ slots (t .dirCap) k (M.empty K′ (s .device)) → (Quiet → Calm K′ s []) → Again Quiet (c .world .state) again
+    again-from Quiet A calm =
+        let e = left turned-runs in
+        let h = left-has turned-runs (Q .fit .has) in
+        let start = world later (emptyState (t .cap) (t .dirCap)) in
+        let B = next-accepts g (t .three) (t .later) slots H k s Q C D (t .dirCap) A in
+        let S = mount-runs g (t .three) (t .cap) (t .dirCap) k later (h .0) u slots (omega arith) (h .1) (subst (λ (x : Planned). M.Accepts K′ slots (t .dirCap) k (M.empty K′ x)) (sym e) B) in
+        let T : Runs g (t .three) start again (M.mount K′ k (turn s .device)) = subst (λ (x : Planned). Runs g (t .three) start again (M.mount K′ k x)) e S in
+        record {
+          accepted = T .out;
+          files = files-of g (t .three) (t .three) turned-runs T (next-files g (t .three) (t .later) slots H k s Q C D);
+          dirs = dirs-of g (t .three) (t .three) turned-runs T (next-dirs g (t .three) (t .later) slots H k s Q C D);
+          free = λ q. free-of g (t .three) (t .three) turned-runs T (next-free g (t .three) (t .later) slots H k s Q C D (t .dirCap) A (calm q));
+        }
+
+  -- what the model knows of the two pools
+  whole-pool : Pool K′ slots (K′ .head deviceOne) (t .n + t .m) modelWhole
+  whole-pool = mount-pool K′ slots (t .n + t .m) deviceOne has room
+
+  whole-card : Card K′ (K′ .head deviceOne) modelWhole
+  whole-card = mount-card K′ slots (t .dirCap) (t .n + t .m) deviceOne has accepts
+
+  whole-calm : QuietWhole t → Calm K′ modelWhole []
+  whole-calm q = mount-calm K′ slots (t .dirCap) (t .n + t .m) deviceOne has accepts (quiet-whole q)
+
+  two-pool : Pool K′ slots (K′ .head deviceTwo) (t .n + t .m) modelBoth
+  two-pool = both-pool K′ slots (t .n) (t .m) deviceTwo has room
+
+  both-card : Card K′ (K′ .head deviceTwo) modelBoth
+  both-card =
+      adopt-card K′ slots (t .dirCap) (K′ .head deviceTwo) (t .m) (t .n) modelPart part-pool (kept .both-accepted) (mount-card K′ slots (t .dirCap) (t .n) deviceTwo has (kept .part-accepted))
+
+  both-calm : QuietBoth t → Calm K′ modelBoth []
+  both-calm q =
+      adopt-calm K′ slots (t .dirCap) (K′ .head deviceTwo) (t .m) (t .n) modelPart part-pool (kept .both-accepted) (quiet-both q)
+      (mount-calm K′ slots (t .dirCap) (t .n) deviceTwo has (kept .part-accepted) (quiet-part q))
+
+  both-registered : B.Registered K′ (K′ .head deviceTwo) (t .n + t .m) (modelBoth .dirs)
+  unfolding headerAt
+  both-registered = kept .registered-both
+
+  again-whole-from : M.Accepts K′ slots (t .dirCap) (t .n + t .m) (M.empty K′ (modelWhole .device)) → AgainWhole t
+  unfolding AgainWhole
+  again-whole-from A u = again-from whole-runs (K′ .head deviceOne) whole-pool whole-card (kept .registered-whole) u (QuietWhole t) A whole-calm
+
+  again-both-from : M.Accepts K′ slots (t .dirCap) (t .n + t .m) (M.empty K′ (modelBoth .device)) → AgainBoth t
+  unfolding AgainBoth
+  again-both-from A u = again-from both-runs (K′ .head deviceTwo) two-pool both-card both-registered u (QuietBoth t) A both-calm
+
+  below : Below62 t → P.Below62 K′ (K′ .head deviceOne) (t .n + t .m)
+  unfolding Below62 P.Below62
+  below b i l = omega (arith, asks-is g (headers t i), b i l)
+
+  small : slots ≤ 64
+  small = omega (arith, G .few)
+
+  pub again-whole : Below62 t → AgainWhole t
+  again-whole b = again-whole-from (returns .0 .accepted small (below b))
+
+  pub again-both : Below62 t → AgainBoth t
+  again-both b = again-both-from (returns .1 .accepted small (below b))
+
+  pub quiet-again-whole : QuietWhole t → AgainWhole t
+  quiet-again-whole q = again-whole-from (kept .again-whole (quiet-whole q) .accepted)
+
+  pub quiet-again-both : QuietBoth t → AgainBoth t
+  quiet-again-both q = again-both-from (kept .again-both (quiet-part q) (quiet-both q) .accepted)
+
+-- THE THEOREMS
+
+pub the-rule : (t : Trial) → Given t → TheRule t
+the-rule = rules
+
+pub split-is-one-mount : (t : Trial) → Given t → SplitIsOneMount t
+split-is-one-mount = split
+
+pub free-slots-same : (t : Trial) → Given t → FreeSlotsSame t
+free-slots-same = free-same
+
+pub mount-again-same : (t : Trial) → Given t → Below62 t → AgainWhole t × AgainBoth t
+mount-again-same t G b = (again-whole t G b, again-both t G b)
+
+pub demand-3 : Demand3
+unfolding Demand3
+demand-3 t G b = (rules t G, split t G, free-same t G, again-whole t G b, again-both t G b)
+
+pub demand-3-of-all : Demand3OfAll
+unfolding Demand3OfAll
+demand-3-of-all t G = (rules t G, split t G, free-same t G, quiet-again-whole t G, quiet-again-both t G)
