@@ -1,16 +1,14 @@
 -- What the filters rest on: paths of different keys are different, so a row or directory whose key none before it has is the first of its path.
-use Prim.Native.Nat.{ℕ, zero, suc, _+_, _-_, _*_, _≤_, _<_}
-use mathlib.Core.Path.{_≡_, refl, sym, ap, ap₂, _∙_}
+use Prim.Native.Nat.{ℕ, zero, suc, _+_, _*_, _≤_, _<_}
+use mathlib.Core.Path.{_≡_, refl, sym, ap, _∙_}
 use mathlib.Core.List.{List, [], _∷_}
 use mathlib.Core.Bool.{Bool, true, false, not, cond, false≢true}
 use native.Mathlib.Omega.{arith}
 use lib.Dec.{eqb, leb}
 use lib.ListN.{length, getD, take, drop}
-use lib.Seq.{take-at}
 use borrow.Author.Tests.{eq-eqb, ne-eqb, lt-leb, le-leb, lt-ltb, le-ltb}
-use Rattle.le.specs.Le.{le, field, laid, Bytes}
+use Rattle.le.specs.Le.{le, field, Bytes}
 use Rattle.le.specs.Fields.{field-back}
-use Rattle.le.specs.Parts.{laid-front, length-laid}
 use Rattle.lists.specs.Same.{sameBytes, same-bytes-refl}
 use Rattle.text.specs.Greatest.{greatest}
 use Rattle.lists.specs.Runs.{tab, any-not}
@@ -91,14 +89,6 @@ module _ (b : List ℕ) (j : ℕ) (bytes : Bytes b) (room : j * 482 + 482 ≤ le
   fit-rest g h z =
       and-on _ _ (eqb g 0) two (and-on _ _ (eqb g 0) (ap (λ (x : ℕ). leb x 480) (sym e) ∙ le-leb _ _ h)
       (ap (λ (x : ℕ). eqb x 0) z ∙ ap (λ (x : ℕ). eqb (greatest (part b (j * 482 + 2 + x) (j * 482 + 482))) 0) e))
-
--- ---- a spelling written to the front of a buffer
-
-pub wrote-fits : (d m ys : List ℕ) (k : ℕ) → length ys ≤ length d → (m ≡ laid d 0 ys) × (k ≡ length ys) → k ≤ length m
-wrote-fits d m ys k h e = omega (arith, ap length (e .0), length-laid d 0 ys (omega arith), e .1)
-
-pub wrote-front : (d m ys : List ℕ) (k : ℕ) → (m ≡ laid d 0 ys) × (k ≡ length ys) → take k m ≡ ys
-wrote-front d m ys k e = ap₂ take (e .1) (e .0 ∙ laid-front d ys) ∙ take-at ys (drop (length ys) d) (length ys) refl
 
 -- ---- zeros
 

@@ -7,9 +7,8 @@ ghost use Prim.Native.Nat.{_+_, _*_, _≤_, _<_, max};
 ghost use lib.Dec.{eqb};
 ghost use lib.ListN.{length, getD};
 ghost use Rattle.lists.specs.Runs.{allOf};
-ghost use Rattle.lists.specs.Same.{sameBytes};
 ghost use Rattle.text.specs.Greatest.{greatest};
-ghost use Rattle.path.specs.Path.{normal, samePath, keyOf};
+ghost use Rattle.path.specs.Path.{samePath, keyOf};
 ghost use Rattle.rows.specs.Rows.{at, pathOf, rowsOf, Flat};
 ghost use Rattle.dirs.specs.Dirs.{hasPath};
 ghost use Rattle.dirs.specs.Rows.{dirAt, dirsOf};
@@ -402,16 +401,6 @@ fn seen_before(dirs: &[u8], keys: &[u32], m: usize, j: usize, p: &[u8]) -> bool
     has_dir(dirs, keys, j, p)
 }
 
-// Whether x is in normal spelling.
-fn is_normal(x: &[u8]) -> bool
-    requires { ⌜ length (now x) ≤ 480 ⌝ }
-    ensures { λ r. ⌜ r ≡ sameBytes (normal (now (x .entry))) (now (x .entry)) ⌝ }
-{
-    let mut b = [0u8; 480];
-    let k = path::normalize(x, &mut b);
-    path::same_bytes(&b[..k], x)
-}
-
 // Whether the nearest ancestor of x, if it has one, is a directory.
 fn up_held(dirs: &[u8], keys: &[u32], m: usize, x: &[u8]) -> bool
     requires { ⌜ (m * 482 ≤ length (now dirs)) × Keys (dirAt (now dirs)) m (now keys) ⌝ }
@@ -431,7 +420,7 @@ fn dir_ok(dirs: &[u8], keys: &[u32], m: usize, j: usize) -> bool
 {
     let k = dirs::dir_len(dirs, j);
     let at = j * 482 + 2;
-    if !is_normal(&dirs[at..at + k]) {
+    if !spelling::is_normal(&dirs[at..at + k]) {
         return false;
     }
     if seen_before(dirs, keys, m, j, &dirs[at..at + k]) {

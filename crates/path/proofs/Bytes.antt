@@ -1,17 +1,25 @@
 -- Equality of bytes, at places: one byte on, and eight read as a number.
-use Prim.Native.Nat.{ℕ, _+_, _-_, _≤_, _<_}
+use Prim.Native.Nat.{ℕ, _+_, _≤_, _<_}
 use mathlib.Core.Path.{_≡_, sym, ap, _∙_}
-use mathlib.Core.List.{List, _++_}
-use mathlib.Core.Bool.{true, false, cond}
+use mathlib.Core.List.{List, [], _∷_, _++_}
+use mathlib.Core.Bool.{Bool, true, false, cond}
 use lib.Dec.{eqb}
-use lib.ListN.{length, getD, take, drop, drop-of-length-le, length-drop, take-append-drop}
-use lib.Seq.{drop-cons, drop-drop, take-all}
+use lib.ListN.{length, getD, take, drop, drop-of-length-le}
+use lib.Seq.{drop-cons, take-all, take-add, take-length, length-take-le}
 use native.Mathlib.Omega.{arith}
 use native.Mathlib.Numerals.{add-one}
 use borrow.Author.Tests.{eq-eqb, ne-eqb}
 use Rattle.le.specs.Le.{le, unle, Bytes}
 use Rattle.le.specs.Fields.{field-back}
-use Rattle.lists.specs.Same.{same, sameBytes, same-append, eqb-refl, same-bytes-other}
+use Rattle.lists.specs.Same.{same, sameBytes, same-bytes-refl, same-bytes-other}
+
+-- what both end with does not matter
+same-before : (a b w : List ℕ) → length a ≡ length b → sameBytes (a ++ w) (b ++ w) ≡ sameBytes a b
+unfolding same
+same-before [] [] w l = same-bytes-refl w
+same-before [] (y ∷ b) w l = absurd (omega arith)
+same-before (x ∷ a) [] w l = absurd (omega arith)
+same-before (x ∷ a) (y ∷ b) w l = ap (λ (t : Bool). cond (eqb x y) t false) (same-before a b w (omega arith))
 
 module _ (a b : List ℕ) (i : ℕ) where
   step : i < length a → i < length b → sameBytes (drop i a) (drop i b) ≡ cond (eqb (getD a i 0) (getD b i 0)) (sameBytes (drop (i + 1) a) (drop (i + 1) b)) false
@@ -31,21 +39,20 @@ module _ (a b : List ℕ) (i : ℕ) where
   pub words-differ : (unle (take 8 (drop i a)) ≡ unle (take 8 (drop i b)) → ⊥) → false ≡ sameBytes a b
   words-differ d = sym (same-bytes-other a b (λ e. d (ap (λ (l : List ℕ). unle (take 8 (drop i l))) e)))
 
-  pub words-next : Bytes a → Bytes b → i + 8 ≤ length a → i + 8 ≤ length b → unle (take 8 (drop i a)) ≡ unle (take 8 (drop i b))
-      → sameBytes a b ≡ sameBytes (drop i a) (drop i b) → sameBytes a b ≡ sameBytes (drop (i + 8) a) (drop (i + 8) b)
-  words-next ba bb la lb e s =
+  -- eight equal bytes behind i, up to j, do not matter
+  pub words-next : (j : ℕ) → Bytes a → Bytes b → j ≡ i + 8 → j ≤ length a → length a ≡ length b → unle (take 8 (drop i a)) ≡ unle (take 8 (drop i b))
+      → sameBytes a b ≡ sameBytes (take j a) (take j b) → sameBytes a b ≡ sameBytes (take i a) (take i b)
+  words-next j ba bb q la lb e s =
       let w : List ℕ = take 8 (drop i a) in
-      let t : take 8 (drop i b) ≡ w = sym (field-back b i 8 bb lb) ∙ (ap (le 8) (sym e) ∙ field-back a i 8 ba la) in
-      let ha : drop i a ≡ w ++ drop (i + 8) a = eight a in
-      let hb : drop i b ≡ w ++ drop (i + 8) b = eight b ∙ ap (λ (x : List ℕ). x ++ drop (i + 8) b) t in
-      s ∙ ap (λ (x : List ℕ). sameBytes x (drop i b)) ha ∙ ap (sameBytes (w ++ drop (i + 8) a)) hb ∙ same-append eqb eqb-refl w (drop (i + 8) a) (drop (i + 8) b)
+      let t : take 8 (drop i b) ≡ w = sym (field-back b i 8 bb (omega arith)) ∙ (ap (le 8) (sym e) ∙ field-back a i 8 ba (omega arith)) in
+      let ha : take j a ≡ take i a ++ w = eight a in
+      let hb : take j b ≡ take i b ++ w = eight b ∙ ap (λ (x : List ℕ). take i b ++ x) t in
+      let l : length (take i a) ≡ length (take i b) = length-take-le i a (omega arith) ∙ sym (length-take-le i b (omega arith)) in
+      s ∙ ap (λ (x : List ℕ). sameBytes x (take j b)) ha ∙ ap (sameBytes (take i a ++ w)) hb ∙ same-before (take i a) (take i b) w l
     where
-      eight : (l : List ℕ) → drop i l ≡ take 8 (drop i l) ++ drop (i + 8) l
-      eight l = sym (take-append-drop 8 (drop i l)) ∙ ap (λ (r : List ℕ). take 8 (drop i l) ++ r) (drop-drop 8 i l)
+      eight : (l : List ℕ) → take j l ≡ take i l ++ take 8 (drop i l)
+      eight l = ap (λ (x : ℕ). take x l) q ∙ take-add i 8 l
 
-  -- what is left of both was lent
-  pub bytes-rest : sameBytes a b ≡ sameBytes (drop i a) (drop i b) → sameBytes (take (length a - i) (drop i a)) (take (length b - i) (drop i b)) ≡ sameBytes a b
-  bytes-rest s =
-      let la : length (drop i a) ≤ length a - i = omega (arith, length-drop i a) in
-      let lb : length (drop i b) ≤ length b - i = omega (arith, length-drop i b) in
-      rw (take-all (length a - i) (drop i a) la, take-all (length b - i) (drop i b) lb) (sym s)
+-- all of both is before their end
+pub words-start : (a b : List ℕ) → length a ≡ length b → sameBytes a b ≡ sameBytes (take (length a) a) (take (length a) b)
+words-start a b h = rw (take-length a, take-all (length a) b (omega arith))

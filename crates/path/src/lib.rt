@@ -117,7 +117,7 @@ fn last(s: &[u8]) -> Part
 }
 
 // Whether a and b, of one length, hold the same bytes: a byte at a time.
-fn same_tail(a: &[u8], b: &[u8]) -> bool
+fn same_few(a: &[u8], b: &[u8]) -> bool
     requires { ⌜ length (now a) ≡ length (now b) ⌝ }
     ensures { λ r. ⌜ r ≡ sameBytes (now (a .entry)) (now (b .entry)) ⌝ }
 {
@@ -131,7 +131,7 @@ fn same_tail(a: &[u8], b: &[u8]) -> bool
     true
 }
 
-// Whether a and b hold the same bytes: eight at a time, then the rest.
+// Whether a and b hold the same bytes: eight at a time from the back, where paths of one folder differ, then the rest.
 pub fn same_bytes(a: &[u8], b: &[u8]) -> bool
     ensures { λ r. ⌜ r ≡ sameBytes (now (a .entry)) (now (b .entry)) ⌝ }
 {
@@ -139,14 +139,14 @@ pub fn same_bytes(a: &[u8], b: &[u8]) -> bool
     if n != b.len() {
         return false;
     }
-    let mut i = 0;
-    while 8 <= n - i {
+    let mut i = n;
+    while 8 <= i {
+        i -= 8;
         if le::get_at(a, i, 8) != le::get_at(b, i, 8) {
             return false;
         }
-        i += 8;
     }
-    same_tail(&a[i..], &b[i..])
+    same_few(&a[..i], &b[..i])
 }
 
 // Whether a and b spell the same path: `Path == Path`. Both are walked side by side from the back, where paths differ most often.

@@ -1,9 +1,7 @@
 -- Carried by `dir-no`, `dir-seen` and `dir-up`, a way out each.
-use mathlib.Core.Path.{ap}
 use borrow.Author.Tests.{not-true, not-false}
 use Rattle.dirs.specs.RowLaws.{dir-part, dir-short}
 use Rattle.admit.proofs.Laws.{dir-no, dir-seen, dir-up}
-use lib.ListN.{length}
 use native.Mathlib.Omega.{arith}
 use borrow.Author.Needs.{needs}
 use Rattle.admit.proofs.dir_ok.Statement.{statement}
@@ -31,7 +29,7 @@ part-is-normal-end : tie.Need-part-is-normal-end
 part-is-normal-end c = omega (arith, dir-short (c .before .before .before .args .dirs .now) (c .before .before .before .args .j))
 
 is-normal-requires : tie.Need-is-normal-requires
-is-normal-requires c κs = omega (arith, ap length (dir-part (c .before .before .before .before .args .dirs .now) (c .before .before .before .before .args .j) _ (c .before .dir-len .ensures)), dir-short (c .before .before .before .before .args .dirs .now) (c .before .before .before .before .args .j))
+is-normal-requires c κs = search needs
 
 returns : tie.Need-returns
 returns c = dir-no _ _ _ _ (dir-part (c .before .before .before .before .before .before .args .dirs .now) (c .before .before .before .before .before .before .args .j) _ (c .before .before .before .dir-len .ensures)) _ (c .before .is-normal .ensures) (not-true _ (c .if1 .taken))

@@ -5,8 +5,8 @@ use lib.ListN.{length, drop}
 use Rattle.lists.specs.Same.{sameBytes}
 use Rattle.path.proofs.Bytes.{bytes-next, bytes-differ, bytes-end}
 use native.Mathlib.Omega.{arith}
-use Rattle.path.proofs.same_tail.Statement.{statement}
-use Rattle.path.proofs.same_tail.Tie as tie
+use Rattle.path.proofs.same_few.Statement.{statement}
+use Rattle.path.proofs.same_few.Tie as tie
 
 abbrev Inv-loop : tie.InvT-loop
 Inv-loop a b i₀ i = (i ≤ length a) × (sameBytes a b ≡ sameBytes (drop i a) (drop i b))
@@ -46,8 +46,8 @@ returns-2 c =
     let args = c .before .before .args in
     bytes-end (args .a .now) (args .b .now) (c .before .loop .i) (omega arith) (omega arith) (c .before .loop .inv .1)
 
-pub same-tail-spec : {M : Type 1} → statement M
-same-tail-spec =
+pub same-few-spec : {M : Type 1} → statement M
+same-few-spec =
     tie.close
     (tie.spec
     Inv-loop

@@ -1,0 +1,29 @@
+-- Carried by `bind-is`: the row and the directories, put together again.
+use borrow.Author.Needs.{needs}
+use Rattle.table.specs.Laws.{pool-rows, pool-dirs}
+use Rattle.files.proofs.Laws.{normal-fits, bind-is}
+use Rattle.files.proofs.bind.Statement.{statement}
+use Rattle.files.proofs.bind.Tie as tie
+
+bind-row-requires : tie.Need-bind-row-requires
+bind-row-requires c κs = (pool-rows _ (c .before .before .before .before .before .before .pre .0 .0), c .before .before .before .before .before .before .pre .0 .1, c .before .before .before .before .before .before .pre .0 .2)
+
+register-ancestors-requires : tie.Need-register-ancestors-requires
+register-ancestors-requires c κs = (pool-dirs _ (c .before .before .before .before .before .before .before .before .before .before .before .before .pre .0 .0), c .before .before .before .before .before .before .before .before .before .before .before .before .pre .1, normal-fits _ (c .before .before .before .before .before .before .before .before .before .before .before .before .pre .0 .2))
+
+returns : tie.Need-returns
+returns c =
+    let r = c .before .before .before .before .before .before .before .before .bind-row .ensures in
+    let d = c .before .before .register-ancestors .ensures in
+    bind-is _ (c .before .before .before .before .before .before .before .before .before .before .before .before .before .before .before .pre .0 .0) _ _ _ _ _ _ _ _ _ (r .0) (r .1) (d .0) (d .1)
+
+pub bind-spec : {M : Type 1} → statement M
+bind-spec =
+    tie.close
+    (tie.spec
+    bind-row-requires
+    register-ancestors-requires
+    (λ c. search needs)
+    (λ c. search needs)
+    (λ c. search needs)
+    returns)

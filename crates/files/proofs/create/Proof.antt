@@ -1,0 +1,54 @@
+-- One law for each way out: `create-stopped`, `create-done`.
+use borrow.Author.Needs.{needs}
+use mathlib.Core.Path.{refl}
+use Rattle.files.proofs.Laws.{spend-room, slot-device, push-room, bind-ready, answered, create-stopped, create-done}
+use Rattle.files.proofs.create.Statement.{statement}
+use Rattle.files.proofs.create.Tie as tie
+
+pop-free-requires : tie.Need-pop-free-requires
+pop-free-requires c κs = c .before .before .before .before .before .before .before .pre .1 .0 .0
+
+next-generation-requires : tie.Need-next-generation-requires
+next-generation-requires c κs = spend-room _ _ (c .before .before .before .before .before .before .before .before .pre .0) (c .before .before .before .before .before .before .before .before .pre .1 .0 .0) (c .before .before .before .before .before .before .before .before .pre .1 .0 .1) _ (c .pop-free .ensures)
+
+data-truncate-requires : tie.Need-data-truncate-requires
+data-truncate-requires c κs = slot-device _ _ (c .before .before .before .before .before .before .before .before .before .before .before .pre .0) (c .before .before .before .before .before .before .before .before .before .before .before .pre .1 .0 .0) (c .before .before .before .before .before .before .before .before .before .before .before .pre .1 .0 .1) _ (c .before .before .before .pop-free .ensures)
+
+push-free-requires : tie.Need-push-free-requires
+push-free-requires c κs = push-room _ _ (c .before .before .before .before .before .before .before .before .before .before .before .before .before .before .before .before .before .pre .0) (c .before .before .before .before .before .before .before .before .before .before .before .before .before .before .before .before .before .pre .1 .0 .0) (c .before .before .before .before .before .before .before .before .before .before .before .before .before .before .before .before .before .pre .1 .0 .1) _ (c .before .before .before .before .before .before .before .before .before .pop-free .ensures) _ (c .before .before .before .before .before .before .before .before .next-generation .ensures)
+
+returns : tie.Need-returns
+returns c =
+    let p = c .before .before .before .before .before .before .before .before .before .before .before .before .before .before .before .before .before .before .before .pre in
+    answered _ _ _ _ _ _ _ _ (c .refused .ensures)
+    (create-stopped _ _ (p .0) (p .1 .0 .0) (p .1 .0 .1) _ (c .before .before .before .before .before .before .before .before .before .before .before .pop-free .ensures) _ (c .before .before .before .before .before .before .before .before .before .before .next-generation .ensures) _ _ _ (c .before .before .before .before .before .before .before .data-truncate .ensures .0) (c .before .before .if1 .taken) _ (c .before .push-free .ensures))
+
+bind-requires : tie.Need-bind-requires
+bind-requires c κs =
+    let p = c .before .before .before .before .before .before .before .before .before .before .before .before .before .before .before .before .before .before .before .before .pre in
+    bind-ready _ _ (p .0) (p .1 .0 .0) (p .1 .0 .1) _ (c .before .before .before .before .before .before .before .before .before .before .before .before .pop-free .ensures) _ (c .before .before .before .before .before .before .before .before .before .before .before .next-generation .ensures) _ (p .1 .0 .2) (p .1 .1)
+
+returns-2 : tie.Need-returns-2
+returns-2 c =
+    let p = c .before .before .before .before .before .before .before .before .before .before .before .before .before .before .before .before .before .before .before .before .before .before .before .before .before .before .before .pre in
+    create-done _ _ (p .0) (p .1 .0 .0) (p .1 .0 .1) _ (c .before .before .before .before .before .before .before .before .before .before .before .before .before .before .before .before .before .before .before .pop-free .ensures) _ (c .before .before .before .before .before .before .before .before .before .before .before .before .before .before .before .before .before .before .next-generation .ensures) _ _ _ (c .before .before .before .before .before .before .before .before .before .before .before .before .before .before .before .data-truncate .ensures .0) (c .before .before .before .before .before .before .before .before .before .before .if1 .left) _ refl _ (c .before .before .before .before .before .before .bind .ensures)
+
+pub create-spec : {M : Type 1} → statement M
+create-spec =
+    tie.close
+    (tie.spec
+    pop-free-requires
+    next-generation-requires
+    data-truncate-requires
+    push-free-requires
+    (λ c κs. search needs)
+    (λ c. search needs)
+    (λ c. search needs)
+    returns
+    bind-requires
+    (λ c. search needs)
+    (λ c. search needs)
+    (λ c. search needs)
+    (λ c. search needs)
+    (λ c. search needs)
+    returns-2)

@@ -1,0 +1,69 @@
+use mathlib.Core.Path.{sym, _∙_}
+use Rattle.table.specs.Laws.{pool-rows}
+use borrow.Author.Tests.{not-true, not-false}
+use Rattle.handles.specs.Handles.{setLenM}
+use Rattle.handles.proofs.Laws.{live-device, stale, goes, resize-stopped, resize-done, set-len-is}
+use borrow.Author.Needs.{needs}
+use Rattle.handles.proofs.set_len.Statement.{statement}
+use Rattle.handles.proofs.set_len.Tie as tie
+
+live-requires : tie.Need-live-requires
+live-requires c κs = pool-rows _ (c .before .before .before .before .before .before .before .pre .pool)
+
+same-length : tie.Need-same-length
+same-length c = search needs
+
+returns : tie.Need-returns
+unfolding setLenM
+returns c = stale _ _ _ _ _ (c .before .before .before .before .before .before .before .before .before .pre .pool) (sym (c .before .live .ensures) ∙ not-true (c .before .live .result) (c .if1 .taken))
+
+data-truncate-requires : tie.Need-data-truncate-requires
+data-truncate-requires c κs = live-device _ _ (c .before .before .before .before .before .before .before .before .before .before .before .pre) _ _ (sym (c .before .before .before .live .ensures) ∙ not-false (c .before .before .before .live .result) (c .before .before .if1 .left))
+
+same-length-2 : tie.Need-same-length-2
+same-length-2 c = search needs
+
+same-length-3 : tie.Need-same-length-3
+same-length-3 c = search needs
+
+same-length-4 : tie.Need-same-length-4
+same-length-4 c = search needs
+
+returns-2 : tie.Need-returns-2
+returns-2 c = set-len-is _ _ _ _ _ (sym (c .before .before .before .before .before .before .before .before .before .live .ensures) ∙ not-false (c .before .before .before .before .before .before .before .before .before .live .result) (c .before .before .before .before .before .before .before .before .if1 .left)) _ _ (resize-stopped _ _ (c .before .before .before .before .before .before .before .before .before .before .before .before .before .before .before .before .before .pre) _ _ _ _ (c .before .before .before .before .before .data-truncate .ensures .0) (c .if2 .taken))
+
+resize-requires : tie.Need-resize-requires
+resize-requires c κs = pool-rows _ (c .before .before .before .before .before .before .before .before .before .before .before .before .before .before .before .before .before .before .pre .pool)
+
+same-length-5 : tie.Need-same-length-5
+same-length-5 c = search needs
+
+same-length-6 : tie.Need-same-length-6
+same-length-6 c = search needs
+
+same-length-7 : tie.Need-same-length-7
+same-length-7 c = search needs
+
+returns-3 : tie.Need-returns-3
+returns-3 c =
+    let e = sym (c .before .before .before .before .before .before .before .before .before .before .before .before .before .live .ensures) ∙ not-false (c .before .before .before .before .before .before .before .before .before .before .before .before .before .live .result) (c .before .before .before .before .before .before .before .before .before .before .before .before .if1 .left) in
+    let s = c .before .before .resize .ensures in
+    set-len-is _ _ _ _ _ e _ _ (resize-done _ _ (c .before .before .before .before .before .before .before .before .before .before .before .before .before .before .before .before .before .before .before .before .before .pre) _ _ _ _ (c .before .before .before .before .before .before .before .before .before .data-truncate .ensures .0) (c .before .before .before .before .if2 .left) _ e _ (s .0) _ (s .1 .0) (s .1 .1))
+
+pub set-len-spec : {M : Type 1} → statement M
+set-len-spec =
+    tie.close
+    (tie.spec
+    live-requires
+    same-length
+    returns
+    data-truncate-requires
+    same-length-2
+    same-length-3
+    same-length-4
+    returns-2
+    resize-requires
+    same-length-5
+    same-length-6
+    same-length-7
+    returns-3)

@@ -1,0 +1,2 @@
+pub mod Rename
+pub mod Laws
