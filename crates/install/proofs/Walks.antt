@@ -23,7 +23,8 @@ use Rattle.dirs.specs.Laws.{length-registered, ancestors-short}
 use Rattle.table.specs.declared.Pool.{Pool}
 use Rattle.table.specs.Queue.{pushed}
 use Rattle.install.specs.declared.Registered.{Registered}
-use Rattle.install.specs.Install.{claimed, answered, kept, refusal, Three, three, Taken, unstaged, spares, pushedAll, vacated}
+use Rattle.survey.specs.Staged.{claimed, spares, vacated}
+use Rattle.install.specs.Install.{answered, kept, refusal, Three, three, Taken, unstaged, pushedAll}
 use Rattle.install.specs.Laws.{claimed-more, claimed-front, claimed-short, answered-yes, answered-no, kept-yes, kept-no, said-yes, said-no, flat-cut}
 
 -- ---- rows put back

@@ -1,21 +1,15 @@
--- What a mount makes of the rows that it has staged: 01, "Mount, adopt". A new slot's row is bound where its header is a claim, and zero where not.
-use Prim.Native.Nat.{ℕ, suc, _+_, _^_, _≤_}
+-- What a mount makes of the rows that it has staged, in the words of survey's Staged: 01, "Mount, adopt". A new slot's row is bound where its header is a claim, and zero where not.
+use Prim.Native.Nat.{ℕ, _+_, _^_, _≤_}
 use mathlib.Core.Path.{_≡_}
 use mathlib.Core.Bool.{true, false, cond}
 use mathlib.Core.List.{List, [], _∷_}
 use lib.Dec.{leb, ltb}
-use lib.ListN.{length, take, set}
-use Rattle.rows.specs.Rows.{Row, none, isBound, pathOf, rowsOf, flatNums, flatNames}
-use Rattle.dirs.specs.Dirs.{registered}
+use lib.ListN.{length, take}
+use Rattle.rows.specs.Rows.{rowsOf, flatNums, flatNames}
 use Rattle.dirs.specs.Rows.{flatDirs}
 use Rattle.table.specs.declared.Pool.{Pool}
 use Rattle.table.specs.Queue.{pushed}
 use Rattle.install.specs.declared.Registered.{Registered}
-
--- "Ancestors of every claim are registered", lowest slot first. The path of a row that is not bound is empty, and has none.
-unfoldable pub claimed : List Row → List (List ℕ) → List (List ℕ)
-claimed [] ds = ds
-claimed (r ∷ rs) ds = claimed rs (registered ds (pathOf r))
 
 -- The directories ds, if cap rows hold them; else 8 is due, and the d directories stay.
 unfoldable pub answered : ℕ → ℕ → List (List ℕ) → Registered
@@ -49,19 +43,10 @@ unfoldable pub unstaged : ℕ → ℕ → ℕ → Three → Three
 unstaged cap n m a =
     three (flatNums cap (take n (rowsOf (a .nums) (a .names) m))) (flatNames cap (take n (rowsOf (a .nums) (a .names) m))) (a .dirs)
 
--- "Non-claims join the queue by index": the numbers of the rows that are not bound, counted from i on.
-unfoldable pub spares : ℕ → List Row → List ℕ
-spares i [] = []
-spares i (r ∷ rs) = cond (isBound r) (spares (suc i) rs) (i ∷ spares (suc i) rs)
-
+-- The slots join the queue's end, one after the other.
 unfoldable pub pushedAll : List ℕ → Pool → Pool
 pushedAll [] q = q
 pushedAll (i ∷ is) q = pushedAll is (pushed i q)
-
--- A loser's row is no longer bound.
-unfoldable pub vacated : List ℕ → List Row → List Row
-vacated [] rs = rs
-vacated (i ∷ is) rs = vacated is (set rs i none)
 
 -- The record counts m slots and d directories, under this counter.
 abbrev pub holding : ℕ → ℕ → ℕ → Pool → Pool

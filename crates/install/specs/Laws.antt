@@ -24,7 +24,8 @@ use Rattle.table.specs.State.{State, poolOf}
 use Rattle.table.specs.Queue.{queued, pushed}
 use Rattle.table.specs.Laws.{push-pool}
 use Rattle.install.specs.declared.Registered.{Registered}
-use Rattle.install.specs.Install.{claimed, answered, kept, pushedAll, vacated}
+use Rattle.survey.specs.Staged.{claimed, vacated}
+use Rattle.install.specs.Install.{answered, kept, pushedAll}
 
 -- ---- directories
 

@@ -12,7 +12,8 @@ ghost use Rattle.rows.specs.Rows.{at, pathOf, rowsOf, Flat, flatNums, flatNames
 ghost use Rattle.dirs.specs.Dirs.{registered};
 ghost use Rattle.dirs.specs.Rows.{dirsOf, flatDirs, FlatDirs};
 ghost use Rattle.table.specs.Queue.{pushed};
-ghost use Rattle.install.specs.Install.{claimed, answered, kept, refusal, three, Taken, unstaged, spares, pushedAll, vacated, holding};
+ghost use Rattle.survey.specs.Staged.{claimed, spares, vacated};
+ghost use Rattle.install.specs.Install.{answered, kept, refusal, three, Taken, unstaged, pushedAll, holding};
 
 // Whether there was room for all directories, and how many there are now.
 pub struct Registered {

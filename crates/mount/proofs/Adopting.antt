@@ -22,14 +22,15 @@ use Rattle.table.specs.State.{State, Valid, Bufs, bufs, view, poolOf, flat, IsP
 use Rattle.table.specs.Laws.{pool-canon, pool-rows, pool-dirs, queue-fits, queue-few, together}
 use Rattle.steps.specs.World.{World, world, Lent, lent, viewW, flatW, Fit, Ready}
 use Rattle.steps.specs.Laws.{world-is, ready-fit, lent-stays}
-use Rattle.install.specs.Install.{claimed, refusal, Three, three, Taken, unstaged, spares, pushedAll, vacated, holding}
+use Rattle.survey.specs.Staged.{claimed, spares, vacated}
+use Rattle.survey.specs.Laws.{scan-rows, scan-length, scan-free, scan-dirs, asked-room, asked-over, asked-same}
+use Rattle.install.specs.Install.{refusal, Three, three, Taken, unstaged, pushedAll, holding}
 use Rattle.install.specs.Laws.{queuedAll, push-all}
 use Rattle.survey.specs.Heads.{Head, Reads, readsM}
 use Rattle.survey.specs.Survey.{Survey, survey, scan}
 use Rattle.survey.specs.Claims.{rowOf, askedOf, losersOf}
 use Rattle.survey.specs.Losers.{scan-losers}
 use Rattle.mount.specs.Mount.{Came, came, Done, done, flatC, begin, installed, drain, moved, settle, afterReads, tooMany, adoptM}
-use Rattle.mount.specs.Scan.{scan-rows, scan-many, scan-free, scan-dirs, scan-counter, scan-above}
 use Rattle.mount.specs.Keeps.{reads-fine, Keeps}
 use Rattle.mount.specs.Laws.{Due, room-for, scanned, installed-fit, losers-due}
 
@@ -66,22 +67,10 @@ accepted-settles plan g v w e = eight (ltb (w .state .dirCap) (length (v .dirs))
     eight false f q = nine (ltb (2 ^ 63) (v .counter + length (v .losers))) refl q (ltb-false _ _ f)
 
 -- 9 is the same, whether the counter is cut or not.
-refusal-cut : (cap : ℕ) (ds : List (List ℕ)) (hs : List Head) (u : Survey) (k : ℕ) → refusal cap ds (max (u .counter) (askedOf hs)) k ≡ refusal cap ds (scan hs u .counter) k
+refusal-cut : (cap : ℕ) (ds : List (List ℕ)) (hs : List Head) (rs : List Row) (es : List (List ℕ)) (c k : ℕ)
+    → refusal cap ds (max c (askedOf hs)) k ≡ refusal cap ds (scan hs (survey rs [] [] es c) .counter) k
 unfolding refusal
-refusal-cut cap ds hs u k = ap (λ (t : Bool). cond (ltb cap (length ds)) 8 (cond t 9 0)) (go (ltb (2 ^ 63) (max (u .counter) (askedOf hs))) refl)
-  where
-    go : (t : Bool) → ltb (2 ^ 63) (max (u .counter) (askedOf hs)) ≡ t → ltb (2 ^ 63) (max (u .counter) (askedOf hs) + k) ≡ ltb (2 ^ 63) (scan hs u .counter + k)
-    go true f =
-        let a : 2 ^ 63 < max (u .counter) (askedOf hs) = ltb-true _ _ f in
-        lt-ltb (2 ^ 63) (max (u .counter) (askedOf hs) + k) (omega (arith, a)) ∙ sym (lt-ltb (2 ^ 63) (scan hs u .counter + k) (omega (arith, scan-above hs u a)))
-    go false f = ap (λ (x : ℕ). ltb (2 ^ 63) (x + k)) (sym (scan-counter hs u (ltb-false _ _ f)))
-
-not-above : (hs : List Head) (u : Survey) → scan hs u .counter ≤ 2 ^ 63 → max (u .counter) (askedOf hs) ≤ 2 ^ 63
-not-above hs u h = go (ltb (2 ^ 63) (max (u .counter) (askedOf hs))) refl
-  where
-    go : (t : Bool) → ltb (2 ^ 63) (max (u .counter) (askedOf hs)) ≡ t → max (u .counter) (askedOf hs) ≤ 2 ^ 63
-    go true f = let a = scan-above hs u (ltb-true _ _ f) in absurd (omega (arith, a))
-    go false f = ltb-false _ _ f
+refusal-cut cap ds hs rs es c k = ap (λ (t : Bool). cond (ltb cap (length ds)) 8 (cond t 9 0)) (asked-over hs rs es c k)
 
 -- ---- the ways out
 
@@ -170,7 +159,7 @@ module _ (plan : List ℕ) (g : Geometry) (k : ℕ) (l : Lent) (R : Ready g l) w
       old-rows = ap (take n) S ∙ take-at rs (map rowOf (r .heads)) n (length-rows (b .nums) (b .names) n)
 
       dirs-are : claimed (drop n staged) (dirsOf (b .dirs) (b .pool .dirs)) ≡ v .dirs
-      dirs-are = ap (λ (x : List Row). claimed x (dirsOf (b .dirs) (b .pool .dirs))) new-rows ∙ sym (scan-dirs (r .heads) start)
+      dirs-are = ap (λ (x : List Row). claimed x (dirsOf (b .dirs) (b .pool .dirs))) new-rows ∙ sym (scan-dirs (r .heads) rs (dirsOf (b .dirs) (b .pool .dirs)) (b .pool .counter))
 
       losers-are : losersOf n staged ≡ v .losers
       losers-are = ap₂ losersOf (sym (length-rows (b .nums) (b .names) n)) S ∙ sym (scan-losers (r .heads) rs (dirsOf (b .dirs) (b .pool .dirs)) (b .pool .counter))
@@ -179,7 +168,7 @@ module _ (plan : List ℕ) (g : Geometry) (k : ℕ) (l : Lent) (R : Ready g l) w
       many =
           let x : length staged ≡ n + k = length-rows l₁ s₁ (n + k) in
           let y : length staged ≡ length rs + length (map rowOf (r .heads)) = ap length S ∙ length-append rs (map rowOf (r .heads)) in
-          omega (arith, scan-many (r .heads) start, length-map (r .heads) rowOf)
+          omega (arith, scan-length (r .heads) rs (dirsOf (b .dirs) (b .pool .dirs)) (b .pool .counter), length-map (r .heads) rowOf)
 
       small : n + k ≤ 64
       unfolding view
@@ -203,7 +192,7 @@ module _ (plan : List ℕ) (g : Geometry) (k : ℕ) (l : Lent) (R : Ready g l) w
         module _ (asked counter : ℕ) (ae : asked ≡ askedOf (r .heads)) (ke : counter ≡ max (b .pool .counter) asked)
             (o : ℕ) (oe : o ≡ refusal (b .pool .«dir_rows») (claimed (drop n staged) (dirsOf (b .dirs) (b .pool .dirs))) counter count) where
           out-is : o ≡ refusal (b .pool .«dir_rows») (v .dirs) (v .counter) (length (v .losers))
-          out-is = oe ∙ rw (dirs-are, counted, ke, ae) (refusal-cut (b .pool .«dir_rows») (v .dirs) (r .heads) start (length (v .losers)))
+          out-is = oe ∙ rw (dirs-are, counted, ke, ae) (refusal-cut (b .pool .«dir_rows») (v .dirs) (r .heads) rs (dirsOf (b .dirs) (b .pool .dirs)) (b .pool .counter) (length (v .losers)))
 
           -- 8 or 9
           pub refused : (l₂ s₂ d₂ : List ℕ) → (o ≡ 0 → ⊥) → ((o ≡ 0 → ⊥) → three l₂ s₂ d₂ ≡ unstaged (b .pool .rows) n (n + k) (three l₁ s₁ (b .dirs)))
@@ -240,12 +229,12 @@ module _ (plan : List ℕ) (g : Geometry) (k : ℕ) (l : Lent) (R : Ready g l) w
             unfolding viewW view
             keeps =
                 let m = length-rows (b .nums) (b .names) n in
-                scanned plan g (viewW l) (ready-fit g l R) (r .heads) (reads-fine plan g n k (l .dev) .0) (omega (arith, many, scan-many (r .heads) start, F .few)) (omega (arith, many, scan-many (r .heads) start, R .slots))
+                scanned plan g (viewW l) (ready-fit g l R) (r .heads) (reads-fine plan g n k (l .dev) .0) (omega (arith, many, scan-length (r .heads) rs (dirsOf (b .dirs) (b .pool .dirs)) (b .pool .counter), F .few)) (omega (arith, many, scan-length (r .heads) rs (dirsOf (b .dirs) (b .pool .dirs)) (b .pool .counter), R .slots))
 
             fit : Fit g W
             unfolding viewW view
             fit =
-                installed-fit plan g (viewW l) (ready-fit g l R) (r .heads) (reads-fine plan g n k (l .dev) .0) (omega (arith, many, scan-many (r .heads) start, F .few)) (omega (arith, many, scan-many (r .heads) start, R .slots))
+                installed-fit plan g (viewW l) (ready-fit g l R) (r .heads) (reads-fine plan g n k (l .dev) .0) (omega (arith, many, scan-length (r .heads) rs (dirsOf (b .dirs) (b .pool .dirs)) (b .pool .counter), F .few)) (omega (arith, many, scan-length (r .heads) rs (dirsOf (b .dirs) (b .pool .dirs)) (b .pool .counter), R .slots))
                 (r .place) (done-is .1) (omega (arith, done-is .2))
 
             due : Due (v .losers) W
@@ -270,10 +259,10 @@ module _ (plan : List ℕ) (g : Geometry) (k : ℕ) (l : Lent) (R : Ready g l) w
               rows-are = S₃ ∙ rw (listed, same-rows, S) (sym (scan-rows (r .heads) rs (dirsOf (b .dirs) (b .pool .dirs)) (b .pool .counter)))
 
               free-are : spares n (drop n (rowsOf l₂ s₂ (n + k))) ≡ v .free
-              free-are = rw (same-rows, new-rows) (ap (λ (m : ℕ). spares m (map rowOf (r .heads))) (sym (length-rows (b .nums) (b .names) n)) ∙ sym (scan-free (r .heads) start))
+              free-are = rw (same-rows, new-rows) (ap (λ (m : ℕ). spares m (map rowOf (r .heads))) (sym (length-rows (b .nums) (b .names) n)) ∙ sym (scan-free (r .heads) rs (dirsOf (b .dirs) (b .pool .dirs)) (b .pool .counter)))
 
               counter-is : counter ≡ v .counter
-              counter-is = ke ∙ rw ae (sym (scan-counter (r .heads) start (not-above (r .heads) start (omega (arith, done-is .2)))))
+              counter-is = ke ∙ rw ae (asked-same (r .heads) rs (dirsOf (b .dirs) (b .pool .dirs)) (b .pool .counter) (length (v .losers)) (asked-room (r .heads) rs (dirsOf (b .dirs) (b .pool .dirs)) (b .pool .counter) (length (v .losers)) .1 (omega (arith, done-is .2))))
 
               record-is : q ≡ poolOf (installed (view b) v)
               unfolding poolOf installed view

@@ -31,7 +31,13 @@ use Rattle.dirs.specs.Joined.{joined-short}
 use Rattle.dirs.specs.Laws.{registered-dirs, ancestors-short}
 use Rattle.survey.specs.Heads.{Head, absent, idle, claim, saidOf, headOf, Reads, behind, looked, readsM}
 use Rattle.survey.specs.Survey.{Survey, survey, spare, enter, rival, meet, step, scan}
-use Rattle.mount.specs.Scan.{bound-inside}
+
+-- A bound row is one of the rows.
+bound-inside : (rs : List Row) (j : ℕ) → isBound (at rs j) ≡ true → j < length rs
+unfolding isBound
+bound-inside [] j h = absurd (false≢true h)
+bound-inside (r ∷ rs) zero h = omega arith
+bound-inside (r ∷ rs) (suc j) h = omega (arith, bound-inside rs j h)
 
 -- ---- what a head is
 

@@ -23,8 +23,8 @@ use Rattle.steps.specs.Steps.{fineM, freeM, releaseM}
 use Rattle.steps.specs.Laws.{release-is, release-fit}
 use Rattle.survey.specs.Heads.{Head, Reads, readsM}
 use Rattle.survey.specs.Survey.{Survey, scan}
+use Rattle.survey.specs.Laws.{scan-length}
 use Rattle.mount.specs.Mount.{Came, came, begin, installed, drain, moved, settle, afterReads, tooMany, adoptM, emptyState, mountM}
-use Rattle.mount.specs.Scan.{scan-many}
 use Rattle.mount.specs.Keeps.{AllSane, reads-fine, Sound, Keeps, scan-keeps}
 
 -- ---- releases in a row
@@ -146,9 +146,9 @@ module _ (plan : List ℕ) (g : Geometry) (w : World) (F : Fit g w) where
     pub installed-fit : (p : Place) → length (v .dirs) ≤ w .state .dirCap → v .counter ≤ 2 ^ 63 → Fit g (world (moved p w .dev) (installed (w .state) v))
     unfolding installed
     installed-fit p h c = record {
-      valid = installed-valid (w .state) v (F .valid) scanned (omega (arith, scan-many hs (begin (w .state)))) h c;
+      valid = installed-valid (w .state) v (F .valid) scanned (omega (arith, scan-length hs (w .state .rows) (w .state .dirs) (w .state .counter))) h c;
       shape = F .shape;
-      slots = omega (arith, scan-many hs (begin (w .state)));
+      slots = omega (arith, scan-length hs (w .state .rows) (w .state .dirs) (w .state .counter));
     }
 
     settled-fit : (p : Place) → Fit g (settle plan g v (moved p w) .world)
@@ -161,7 +161,7 @@ module _ (plan : List ℕ) (g : Geometry) (w : World) (F : Fit g w) where
         nine false h e =
             let c : v .counter + length (v .losers) ≤ 2 ^ 63 = ltb-false _ _ e in
             drain-fit plan g (v .losers) (world (moved p w .dev) (installed (w .state) v))
-            (losers-due (w .state) v (F .valid) scanned (omega (arith, scan-many hs (begin (w .state)))) h (moved p w .dev) c) (installed-fit p h (omega arith))
+            (losers-due (w .state) v (F .valid) scanned (omega (arith, scan-length hs (w .state .rows) (w .state .dirs) (w .state .counter))) h (moved p w .dev) c) (installed-fit p h (omega arith))
 
         eight : (t : Bool) → ltb (w .state .dirCap) (length (v .dirs)) ≡ t
             → Fit g (cond t (came 8 (moved p w)) (cond (ltb (2 ^ 63) (v .counter + length (v .losers))) (came 9 (moved p w))

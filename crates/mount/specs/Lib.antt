@@ -1,4 +1,3 @@
 pub mod Mount
-pub mod Scan
 pub mod Keeps
 pub mod Laws

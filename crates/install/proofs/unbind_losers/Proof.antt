@@ -5,7 +5,7 @@ use lib.ListN.{length, take, drop}
 use borrow.Author.Needs.{needs}
 use Rattle.rows.specs.Rows.{rowsOf, Flat}
 use Rattle.rows.specs.Laws.{nums-long, names-long}
-use Rattle.install.specs.Install.{vacated}
+use Rattle.survey.specs.Staged.{vacated}
 use Rattle.install.proofs.Walks.{list-in, vacated-more, vacated-done}
 use native.Mathlib.Omega.{arith}
 use Rattle.install.proofs.unbind_losers.Statement.{statement}
