@@ -3,14 +3,15 @@
 use script::make::Block;
 use script::{Handle, Op, Script, Setup};
 
-const SIZE: u32 = 1024;
+/// The slots' size in the scripts made here.
+pub const SLOT_SIZE: u32 = 1024;
 
 /// Blank slots, with row counts that fit.
 pub fn blank(slots: usize) -> Setup {
     Setup {
         slot_rows: slots as u8,
         dir_rows: 8,
-        slot_size: SIZE,
+        slot_size: SLOT_SIZE,
         plan: Vec::new(),
         lengths: vec![0; slots],
         patches: Vec::new(),
@@ -23,7 +24,7 @@ pub fn claims(headers: &[(&str, u64, u64)], free: usize) -> Setup {
     for (slot, (path, generation, length)) in headers.iter().enumerate() {
         setup.lengths[slot] = 600;
         let block = Block::claim(path.as_bytes(), *generation, *length);
-        let place = slot as u32 * SIZE;
+        let place = slot as u32 * SLOT_SIZE;
         setup.patches.push((place, block.bytes()));
         setup.patches.push((place + 512, (1..=88).collect()));
     }
@@ -577,7 +578,7 @@ fn shapes(add: Add) {
             ],
         );
     }
-    for length in [SIZE, SIZE + 1, u32::MAX] {
+    for length in [SLOT_SIZE, SLOT_SIZE + 1, u32::MAX] {
         add(
             "a physical length",
             Setup {

@@ -151,3 +151,15 @@ pub fn guarded<T>(work: impl FnOnce() -> Result<T, String>) -> Result<T, String>
         Err(format!("panic: {message}"))
     })
 }
+
+/// Prints a script on which two runners differ, in words and in hexadecimal, and ends the program with 1.
+pub fn finish(small: &Script, difference: &str) -> ! {
+    println!("DIFFERENCE: {difference}\n{small}");
+    let hex: String = small
+        .bytes()
+        .iter()
+        .map(|byte| format!("{byte:02x}"))
+        .collect();
+    println!("script in hexadecimal: {hex}");
+    std::process::exit(1);
+}

@@ -8,6 +8,7 @@
 use std::collections::BTreeMap;
 
 use compare::arguments::{Arguments, stop};
+use compare::edges::{SLOT_SIZE, blank};
 use compare::pair::guarded;
 use compare::tally::NAMES;
 use model::Model;
@@ -15,7 +16,6 @@ use original::{Decoded, Original};
 use script::make::{Block, Flavour, Maker, whole};
 use script::{Handle, Machine, Op, Script, Setup, shrink};
 
-const SIZE: u32 = 1024;
 const HALF: u64 = 1 << 63;
 
 fn main() {
@@ -68,24 +68,13 @@ fn differ(script: &Script) -> Option<Found> {
     None
 }
 
-fn setup(slots: usize) -> Setup {
-    Setup {
-        slot_rows: slots as u8,
-        dir_rows: 8,
-        slot_size: SIZE,
-        plan: Vec::new(),
-        lengths: vec![0; slots],
-        patches: Vec::new(),
-    }
-}
-
 /// A device with these headers, and blank slots after them.
 fn claims(headers: &[(&str, u64, u64)], slots: usize) -> Setup {
-    let mut made = setup(slots);
+    let mut made = blank(slots);
     for (slot, (path, generation, length)) in headers.iter().enumerate() {
         made.lengths[slot] = 512;
         let block = Block::claim(path.as_bytes(), *generation, *length);
-        made.patches.push((slot as u32 * SIZE, block.bytes()));
+        made.patches.push((slot as u32 * SLOT_SIZE, block.bytes()));
     }
     made
 }
@@ -109,36 +98,36 @@ fn scripts() -> Vec<(&'static str, Script)> {
             "2, slot size",
             Setup {
                 slot_size: 513,
-                ..setup(1)
+                ..blank(1)
             },
             vec![Op::Mount(1)],
         ),
-        ("2, slot rows", slot_rows(65, setup(1)), vec![Op::Mount(1)]),
-        ("2, directory rows", rows(257, setup(1)), vec![Op::Mount(1)]),
+        ("2, slot rows", slot_rows(65, blank(1)), vec![Op::Mount(1)]),
+        ("2, directory rows", rows(257, blank(1)), vec![Op::Mount(1)]),
         (
             "3, open",
-            setup(1),
+            blank(1),
             vec![Op::Mount(1), Op::OpenWrite(0, vec![0xFF])],
         ),
         (
             "3, asking",
-            setup(1),
+            blank(1),
             vec![Op::Mount(1), Op::Exists(vec![0xFF])],
         ),
         (
             "4, directory",
-            setup(1),
+            blank(1),
             vec![Op::Mount(1), Op::CreateDirAll(vec![b'y'; 481])],
         ),
-        ("8, open", rows(0, setup(1)), vec![Op::Mount(1), open("/b")]),
+        ("8, open", rows(0, blank(1)), vec![Op::Mount(1), open("/b")]),
         (
             "8, rename",
-            rows(0, setup(1)),
+            rows(0, blank(1)),
             vec![Op::Mount(1), open("a"), Op::Rename(path("a"), path("/a"))],
         ),
         (
             "8, create_dir_all",
-            rows(0, setup(1)),
+            rows(0, blank(1)),
             vec![Op::Mount(1), Op::CreateDirAll(path("a"))],
         ),
         (
@@ -192,21 +181,21 @@ fn scripts() -> Vec<(&'static str, Script)> {
             claims(&[("a", u64::MAX - 1, 0), ("a", 0, 0)], 2),
             vec![Op::Mount(2)],
         ),
-        ("12, slot rows", slot_rows(1, setup(2)), vec![Op::Mount(2)]),
-        ("12, device", slot_rows(2, setup(1)), vec![Op::Mount(2)]),
+        ("12, slot rows", slot_rows(1, blank(2)), vec![Op::Mount(2)]),
+        ("12, device", slot_rows(2, blank(1)), vec![Op::Mount(2)]),
         (
             "12, adopt",
-            slot_rows(1, setup(2)),
+            slot_rows(1, blank(2)),
             vec![Op::Mount(1), Op::Adopt(1)],
         ),
         (
             "place past u64, write",
-            setup(1),
+            blank(1),
             vec![Op::Mount(1), open("a"), Op::Write(first, far, vec![])],
         ),
         (
             "place past u64, set_len",
-            setup(1),
+            blank(1),
             vec![Op::Mount(1), open("a"), Op::SetLen(first, far)],
         ),
         (
@@ -218,7 +207,7 @@ fn scripts() -> Vec<(&'static str, Script)> {
             "failing sync_dir over several files",
             Setup {
                 plan: vec![0, 0, 0, 0, 0, 0, 1],
-                ..setup(2)
+                ..blank(2)
             },
             vec![Op::Mount(2), open("a"), open("c"), Op::SyncDir(vec![])],
         ),
@@ -260,7 +249,7 @@ fn long_encoding() {
 fn unbound_mark() {
     let setup = Setup {
         plan: vec![0, 0, 2],
-        ..setup(1)
+        ..blank(1)
     };
     let ops = [
         Op::Mount(1),
@@ -285,7 +274,7 @@ fn unbound_mark() {
 
 /// 01 compares listings as sets of paths; here the spelling is seen.
 fn spelling_listed() {
-    let setup = setup(2);
+    let setup = blank(2);
     let Some(mut original) = Original::start(&setup) else {
         return;
     };

@@ -51,35 +51,22 @@ fn run(script: &Script, tally: &mut Tally, library: &mut Option<Library>) -> u32
     if original::PRESENT
         && let Err(difference) = pair::compare(script, tally)
     {
-        println!("{difference}");
         let small = shrink::shrink(script, |script| {
             pair::compare(script, &mut Tally::default()).is_err()
         });
-        finish(&small);
+        pair::finish(&small, &difference.to_string());
     }
     if let Some(library) = library
         && let Err(difference) = library::agrees(library, &mut ModelRunner, &script.bytes())
     {
-        println!("library and model: {difference}");
         let small = shrink::shrink(script, |script| {
             library::agrees(library, &mut ModelRunner, &script.bytes()).is_err()
         });
-        finish(&small);
+        pair::finish(&small, &format!("library and model: {difference}"));
     }
     let mut model = Model::start(&script.setup);
     for op in &script.ops {
         model.step(op);
     }
     model.tables().place
-}
-
-fn finish(small: &Script) -> ! {
-    println!("DIFFERENCE:\n{small}");
-    let hex: String = small
-        .bytes()
-        .iter()
-        .map(|byte| format!("{byte:02x}"))
-        .collect();
-    println!("script in hexadecimal: {hex}");
-    std::process::exit(1);
 }

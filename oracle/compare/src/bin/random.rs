@@ -10,7 +10,7 @@ use std::time::Instant;
 
 use compare::arguments::{Arguments, stop};
 use compare::library::Library;
-use compare::pair::{self, Pair, Step};
+use compare::pair::{self, Pair, Step, finish};
 use compare::tally::Tally;
 use model::{Model, ModelRunner};
 use script::make::{Flavour, Maker};
@@ -195,15 +195,4 @@ fn report_library(library: &mut Library, found: &Script, number: u64, difference
     let difference = library_agrees(library, &small.bytes()).err();
     println!("{} and {}", library.name(), ModelRunner.name());
     finish(&small, &difference.unwrap_or_default())
-}
-
-fn finish(small: &Script, difference: &str) -> ! {
-    println!("DIFFERENCE: {difference}\n{small}");
-    let hex: String = small
-        .bytes()
-        .iter()
-        .map(|byte| format!("{byte:02x}"))
-        .collect();
-    println!("script in hexadecimal: {hex}");
-    std::process::exit(1);
 }
