@@ -32,7 +32,7 @@ fn main() {
     } else {
         println!("cargo::warning=the library has no pool_script: whole scripts are not run on it");
     }
-    if exports(&archive, b"record_check") {
+    if exports(&archive, b"record_check") && exports(&archive, b"record_lookups") {
         println!("cargo::rustc-cfg=records");
     }
 }

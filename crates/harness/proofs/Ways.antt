@@ -1,9 +1,9 @@
 -- The ways out of the exported calls: one law for each, from the tests that were passed to the call's outcome.
-use Prim.Native.Nat.{ℕ, _<_, _≤_}
+use Prim.Native.Nat.{ℕ, _+_, _<_, _≤_}
 use mathlib.Core.Path.{_≡_, refl, sym, ap, ap₂, _∙_}
 use mathlib.Core.Bool.{Bool, true, false, cond, not}
 use mathlib.Core.List.{List, _++_}
-use borrow.Author.Tests.{lt-ltb, le-ltb}
+use borrow.Author.Tests.{lt-ltb, le-ltb, eq-eqb, ne-eqb}
 use lib.ListN.{length, take, drop, replicate}
 use lib.Seq.{take-length}
 use Rattle.le.specs.Le.{laid}
@@ -13,9 +13,11 @@ use Rattle.path.specs.Path.{components, samePath, hasParent, join, normal, pare
 use Rattle.path.specs.Walk.{UpTo}
 use Rattle.header.specs.Block.{blockLen, maxPath, headerOf, encoded, decoded}
 use Rattle.header.specs.Laws.{short-absent}
-use Rattle.harness.specs.Calls.{outcome, refusal, encodeCall, saidOf, decodeCall, textCall, sameCall, spelled, normalCall, parentCall, recordCall}
-use Rattle.table.specs.State.{bufs}
+use Rattle.harness.specs.Calls.{outcome, refusal, encodeCall, saidOf, decodeCall, textCall, sameCall, spelled, normalCall, parentCall, countedPool, recordCall, hits, lookupsCall}
+use Rattle.table.specs.declared.Pool.{Pool}
+use Rattle.table.specs.State.{State, bufs, view}
 use Rattle.admit.specs.Test.{isPool}
+use Rattle.files.specs.Files.{openReadM}
 use lib.Dec.{eqb}
 
 -- what a test said of a flag, of what the flag stands for
@@ -125,9 +127,31 @@ module _ (path out : List ℕ) where
 
 -- ---- the record
 
+-- what one search comes to, all come to
+module _ (path : List ℕ) (s : State) (k : ℕ) where
+  pub hits-all : openReadM path s .out ≡ 0 → hits path s k ≡ k
+  unfolding hits
+  hits-all e = rw (eq-eqb _ _ e)
+
+  pub hits-fail : {n : ℕ} → openReadM path s .out ≡ n → (n ≡ 0 → ⊥) → hits path s k ≡ hits path s (k + 1)
+  unfolding hits
+  hits-fail {n} e f = rw (e, ne-eqb n 0 f)
+
+-- before the first search none has found it
+pub hits-start : (path : List ℕ) (s : State) → hits path s 0 ≡ 0
+unfolding hits
+hits-start path s = go (eqb (openReadM path s .out) 0)
+  where
+    go : (t : Bool) → _≡_ {A = ℕ} (cond t 0 0) 0
+    go true = refl
+    go false = refl
+
 -- the answer is the test's, of a record whose queue has empty cells
-pub record-said : (l n d q : List ℕ) (rows dirRows held dirsHeld counter : ℕ) (t : Bool) {r : ℕ} → q ≡ replicate 64 0
-    → isPool (bufs (record { rows = rows; «dir_rows» = dirRows; held = held; dirs = dirsHeld; counter = counter; free = 0; queue = q }) l n d) ≡ t
-    → r ≡ cond t 1 0 → r ≡ recordCall l n d rows dirRows held dirsHeld counter
-unfolding recordCall
-record-said l n d q rows dirRows held dirsHeld counter t e f h = h ∙ rw (← e, f)
+module _ (l n d : List ℕ) (rows dirRows held dirsHeld counter : ℕ) (q : Pool) (t : Bool) (e : q ≡ countedPool rows dirRows held dirsHeld counter) (f : isPool (bufs q l n d) ≡ t) where
+  pub record-said : {r : ℕ} → r ≡ cond t 1 0 → r ≡ recordCall l n d rows dirRows held dirsHeld counter
+  unfolding recordCall
+  record-said h = h ∙ rw (← e, f)
+
+  pub lookups-said : {r : ℕ} (path : List ℕ) (times : ℕ) → r ≡ cond t (hits path (view (bufs q l n d)) times) 0 → r ≡ lookupsCall l n d rows dirRows held dirsHeld counter path times
+  unfolding lookupsCall
+  lookups-said path times h = h ∙ rw (← e, f)

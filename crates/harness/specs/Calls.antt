@@ -11,8 +11,10 @@ use Rattle.header.specs.Block.{blockLen, maxPath, headerOf, flagsOf, encoded, d
 use Rattle.header.specs.declared.Header.{Header}
 use Rattle.header.specs.declared.Decoded.{Decoded}
 use Rattle.header.specs.declared.Decoded.the-variants.{Absent, Found}
-use Rattle.table.specs.State.{bufs}
+use Rattle.table.specs.declared.Pool.{Pool}
+use Rattle.table.specs.State.{State, bufs, view}
 use Rattle.admit.specs.Test.{isPool}
+use Rattle.files.specs.Files.{openReadM}
 
 -- What a call leaves: its answer, and the lent buffer.
 pub record Outcome : Type 0 where
@@ -81,7 +83,20 @@ parentCall path out =
 
 -- ---- the record
 
--- record_check: 1 for a pool, 0 for none, of rows and a record with an empty queue.
+-- The record of these counts, with an empty queue.
+abbrev pub countedPool : ℕ → ℕ → ℕ → ℕ → ℕ → Pool
+countedPool rows dirRows held dirsHeld counter = record { rows = rows; «dir_rows» = dirRows; held = held; dirs = dirsHeld; counter = counter; free = 0; queue = replicate 64 0 }
+
+-- record_check: 1 for a pool, 0 for none.
 unfoldable pub recordCall : List ℕ → List ℕ → List ℕ → ℕ → ℕ → ℕ → ℕ → ℕ → ℕ
-recordCall nums names dirs rows dirRows held dirsHeld counter =
-    cond (isPool (bufs (record { rows = rows; «dir_rows» = dirRows; held = held; dirs = dirsHeld; counter = counter; free = 0; queue = replicate 64 0 }) nums names dirs)) 1 0
+recordCall nums names dirs rows dirRows held dirsHeld counter = cond (isPool (bufs (countedPool rows dirRows held dirsHeld counter) nums names dirs)) 1 0
+
+-- Each of so many searches finds the path, or none does.
+unfoldable pub hits : List ℕ → State → ℕ → ℕ
+hits path s times = cond (eqb (openReadM path s .out) 0) times 0
+
+-- record_lookups: how many searches found the path, and 0 where it is no pool.
+unfoldable pub lookupsCall : List ℕ → List ℕ → List ℕ → ℕ → ℕ → ℕ → ℕ → ℕ → List ℕ → ℕ → ℕ
+lookupsCall nums names dirs rows dirRows held dirsHeld counter path times =
+    let b = bufs (countedPool rows dirRows held dirsHeld counter) nums names dirs in
+    cond (isPool b) (hits path (view b) times) 0

@@ -14,7 +14,7 @@ use Rattle.path.specs.Path.{components, hasParent, normal, parentOf}
 use Rattle.header.specs.Block.{blockLen, maxPath, decoded}
 use Rattle.header.specs.declared.Decoded.{Decoded}
 use Rattle.header.specs.declared.Decoded.the-variants.{Absent, Found}
-use Rattle.harness.specs.Calls.{Outcome, outcome, refusal, saidOf, encodeCall, decodeCall, textCall, sameCall, spelled, normalCall, parentCall, recordCall}
+use Rattle.harness.specs.Calls.{Outcome, outcome, refusal, saidOf, encodeCall, decodeCall, textCall, sameCall, spelled, normalCall, parentCall, recordCall, lookupsCall}
 
 -- ---- one outcome
 
@@ -39,6 +39,10 @@ module _ {r r′ : ℕ} where
   pub record-check-one-outcome : (l n d : List ℕ) (rows dirRows held dirsHeld counter : ℕ) → r ≡ recordCall l n d rows dirRows held dirsHeld counter
       → r′ ≡ recordCall l n d rows dirRows held dirsHeld counter → r ≡ r′
   record-check-one-outcome l n d rows dirRows held dirsHeld counter = one-answer (recordCall l n d rows dirRows held dirsHeld counter)
+
+  pub record-lookups-one-outcome : (l n d : List ℕ) (rows dirRows held dirsHeld counter : ℕ) (path : List ℕ) (times : ℕ)
+      → r ≡ lookupsCall l n d rows dirRows held dirsHeld counter path times → r′ ≡ lookupsCall l n d rows dirRows held dirsHeld counter path times → r ≡ r′
+  record-lookups-one-outcome l n d rows dirRows held dirsHeld counter path times = one-answer (lookupsCall l n d rows dirRows held dirsHeld counter path times)
 
   module _ {o o′ : List ℕ} where
     pub header-encode-one-outcome : (u l g : ℕ) (path out : List ℕ) → outcome r o ≡ encodeCall u l g path out → outcome r′ o′ ≡ encodeCall u l g path out → (r ≡ r′) × (o ≡ o′)

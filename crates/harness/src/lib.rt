@@ -6,11 +6,12 @@ use header::Header;
 use table::Pool;
 ghost use mathlib.Core.Path.{_≡_};
 ghost use Prim.Native.Nat.{_≤_};
-ghost use lib.ListN.{length, replicate};
+ghost use lib.ListN.{length};
 ghost use Rattle.fnv.specs.Fnv.{fnvFrom};
 ghost use Rattle.le.specs.Le.{laid};
 ghost use Rattle.path.specs.Path.{normal};
-ghost use Rattle.harness.specs.Calls.{outcome, refusal, numbersOf, encodeCall, decodeCall, textCall, sameCall, spelled, normalCall, parentCall, recordCall};
+ghost use Rattle.table.specs.State.{bufs, view, IsPool};
+ghost use Rattle.harness.specs.Calls.{outcome, refusal, numbersOf, encodeCall, decodeCall, textCall, sameCall, spelled, normalCall, parentCall, countedPool, recordCall, hits, lookupsCall};
 
 // The state of the 32-bit FNV-1a behind these bytes, from the state `start`.
 #[no_mangle]
@@ -169,24 +170,66 @@ pub extern "C" fn record_check(
 ) -> u8
     ensures { λ r. ⌜ r ≡ recordCall (now (nums .entry)) (now (names .entry)) (now (dirs .entry)) rows «dir_rows» held «dirs_held» counter ⌝ }
 {
-    let pool = Pool {
-        rows,
-        dir_rows,
-        held,
-        dirs: dirs_held,
-        counter,
-        free: 0,
-        queue: no_slots(),
-    };
+    let pool = counted(rows, dir_rows, held, dirs_held, counter);
     if admit::pool_ok(nums, names, dirs, pool) {
         return 1;
     }
     0
 }
 
-// The cells of an empty queue.
-fn no_slots() -> [u8; 64]
-    ensures { λ r. ⌜ r ≡ replicate 64 0 ⌝ }
+// The same test once, and where it is a pool the path is looked for so many times: how many times it was found. Exported so that a search can
+// be measured without the test.
+#[no_mangle]
+pub extern "C" fn record_lookups(
+    nums: &[u64],
+    names: &[u8],
+    dirs: &[u8],
+    rows: usize,
+    dir_rows: usize,
+    held: usize,
+    dirs_held: usize,
+    counter: u64,
+    path: &[u8],
+    times: u64,
+) -> u64
+    ensures { λ r. ⌜ r ≡ lookupsCall (now (nums .entry)) (now (names .entry)) (now (dirs .entry)) rows «dir_rows» held «dirs_held» counter (now (path .entry)) times ⌝ }
 {
-    [0u8; 64]
+    let pool = counted(rows, dir_rows, held, dirs_held, counter);
+    if admit::pool_ok(nums, names, dirs, pool) {
+        return lookups(nums, names, dirs, pool, path, times);
+    }
+    0
+}
+
+// How many of so many searches of a path find it.
+fn lookups(nums: &[u64], names: &[u8], dirs: &[u8], pool: Pool, path: &[u8], times: u64) -> u64
+    requires { ⌜ IsPool (bufs pool (now nums) (now names) (now dirs)) ⌝ }
+    ensures { λ r. ⌜ r ≡ hits (now (path .entry)) (view (bufs pool (now (nums .entry)) (now (names .entry)) (now (dirs .entry)))) times ⌝ }
+{
+    let mut i = 0u64;
+    let mut found = 0u64;
+    while i < times {
+        let reader = files::open_read(nums, names, dirs, pool, path);
+        let out = reader.out;
+        i = i + 1;
+        if out == 0 {
+            found = i;
+        }
+    }
+    found
+}
+
+// The record of these counts, with an empty queue.
+fn counted(rows: usize, dir_rows: usize, held: usize, dirs_held: usize, counter: u64) -> Pool
+    ensures { λ r. ⌜ r ≡ countedPool rows «dir_rows» held «dirs_held» counter ⌝ }
+{
+    Pool {
+        rows,
+        dir_rows,
+        held,
+        dirs: dirs_held,
+        counter,
+        free: 0,
+        queue: [0u8; 64],
+    }
 }

@@ -7,4 +7,5 @@ pub mod exhaust;
 pub mod leaves;
 pub mod library;
 pub mod pair;
+pub mod rows;
 pub mod tally;

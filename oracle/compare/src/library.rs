@@ -33,6 +33,23 @@ mod linked {
             dirs_held: usize,
             counter: u64,
         ) -> u8;
+        #[cfg(records)]
+        fn record_lookups(
+            nums: *const u64,
+            nums_length: usize,
+            names: *const u8,
+            names_length: usize,
+            dirs: *const u8,
+            dirs_length: usize,
+            rows: usize,
+            dir_rows: usize,
+            held: usize,
+            dirs_held: usize,
+            counter: u64,
+            path: *const u8,
+            path_length: usize,
+            times: u64,
+        ) -> u64;
         #[cfg(scripts)]
         fn pool_script(script: *const u8, length: usize, out: *mut u8, out_length: usize) -> usize;
     }
@@ -94,6 +111,37 @@ mod linked {
                 held,
                 dirs_held,
                 counter,
+            )
+        }
+    }
+
+    #[cfg(records)]
+    pub fn lookups(
+        nums: &[u64],
+        names: &[u8],
+        dirs: &[u8],
+        counts: [usize; 4],
+        counter: u64,
+        path: &[u8],
+        times: u64,
+    ) -> u64 {
+        let [rows, dir_rows, held, dirs_held] = counts;
+        unsafe {
+            record_lookups(
+                nums.as_ptr(),
+                nums.len(),
+                names.as_ptr(),
+                names.len(),
+                dirs.as_ptr(),
+                dirs.len(),
+                rows,
+                dir_rows,
+                held,
+                dirs_held,
+                counter,
+                path.as_ptr(),
+                path.len(),
+                times,
             )
         }
     }
@@ -168,6 +216,33 @@ pub fn record(
     _counter: u64,
 ) -> bool {
     unreachable!("no record_check was linked")
+}
+
+/// The test of such a record, and if it is a pool so many searches of a path: how many found it.
+#[cfg(records)]
+pub fn lookups(
+    nums: &[u64],
+    names: &[u8],
+    dirs: &[u8],
+    counts: [usize; 4],
+    counter: u64,
+    path: &[u8],
+    times: u64,
+) -> u64 {
+    linked::lookups(nums, names, dirs, counts, counter, path, times)
+}
+
+#[cfg(not(records))]
+pub fn lookups(
+    _nums: &[u64],
+    _names: &[u8],
+    _dirs: &[u8],
+    _counts: [usize; 4],
+    _counter: u64,
+    _path: &[u8],
+    _times: u64,
+) -> u64 {
+    unreachable!("no record_lookups was linked")
 }
 
 /// What is missing, in one line, if they are not.

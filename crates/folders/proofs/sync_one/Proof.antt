@@ -1,0 +1,55 @@
+-- One law for each way out: `one-not`, `one-due`.
+use mathlib.Core.Path.{sym, _∙_}
+use borrow.Author.Tests.{not-true, not-false}
+use Rattle.table.specs.Laws.{pool-rows}
+use Rattle.folders.proofs.Laws.{due-bound, one-not, one-due}
+use borrow.Author.Needs.{needs}
+use Rattle.folders.proofs.sync_one.Statement.{statement}
+use Rattle.folders.proofs.sync_one.Tie as tie
+
+is-due-requires : tie.Need-is-due-requires
+is-due-requires c κs = (pool-rows _ (c .before .before .before .before .before .before .before .before .pre .0 .pool), c .before .before .before .before .before .before .before .before .pre .1)
+
+same-length : tie.Need-same-length
+same-length c = search needs
+
+returns : tie.Need-returns
+returns c =
+    let pre = c .before .before .before .before .before .before .before .before .before .before .pre in
+    one-not _ _ _ _ _ (pre .0 .pool) (sym (c .before .is-due .ensures) ∙ not-true (c .before .is-due .result) (c .if1 .taken))
+
+sync-row-requires : tie.Need-sync-row-requires
+sync-row-requires c κs =
+    let pre = c .before .before .before .before .before .before .before .before .before .before .before .before .before .pre in
+    let is-due = c .before .before .before .before .is-due in
+    let if1 = c .before .before .before .if1 in
+    (pre .0, (pre .1, due-bound _ _ (sym (is-due .ensures) ∙ not-false (is-due .result) (if1 .left))))
+
+same-length-2 : tie.Need-same-length-2
+same-length-2 c = search needs
+
+same-length-3 : tie.Need-same-length-3
+same-length-3 c = search needs
+
+same-length-4 : tie.Need-same-length-4
+same-length-4 c = search needs
+
+returns-2 : tie.Need-returns-2
+returns-2 c =
+    let is-due = c .before .before .before .before .before .before .before .before .before .before .before .is-due in
+    let if1 = c .before .before .before .before .before .before .before .before .before .before .if1 in
+    let sync-row = c .before .before .before .before .before .before .sync-row in
+    one-due _ _ _ _ _ (sym (is-due .ensures) ∙ not-false (is-due .result) (if1 .left)) _ _ (sync-row .ensures)
+
+pub sync-one-spec : {M : Type 1} → statement M
+sync-one-spec =
+    tie.close
+    (tie.spec
+    is-due-requires
+    same-length
+    returns
+    sync-row-requires
+    same-length-2
+    same-length-3
+    same-length-4
+    returns-2)

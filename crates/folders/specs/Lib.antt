@@ -1,0 +1,3 @@
+pub mod Folders
+pub mod Laws
+pub mod Examples
