@@ -1,0 +1,41 @@
+-- Carried by `entry-put`: three stores, one behind the other, are one.
+use mathlib.Core.Path.{refl, _∙_}
+use lib.ListN.{length-set}
+use Rattle.listing.proofs.Laws.{entry-put}
+use native.Mathlib.Omega.{arith}
+use borrow.Author.Needs.{needs}
+use Rattle.listing.proofs.put_entry.Statement.{statement}
+use Rattle.listing.proofs.put_entry.Tie as tie
+
+slice-write-buf : tie.Need-slice-write-buf
+slice-write-buf c = search needs
+
+add-put-at : tie.Need-add-put-at
+add-put-at c = search needs
+
+put-at-requires : tie.Need-put-at-requires
+put-at-requires c κs = simp length-set (omega arith)
+
+add-copy-in : tie.Need-add-copy-in
+add-copy-in c = search needs
+
+copy-in-requires : tie.Need-copy-in-requires
+copy-in-requires c κs = omega (arith, c .before .before .before .put-at .kept .0, length-set (c .before .before .before .before .before .before .before .args .buf .now) (c .before .before .before .before .before .before .before .args .at) (c .before .before .before .before .before .before .before .args .kind))
+
+same-length : tie.Need-same-length
+same-length c = c .before .before .copy-in .kept .0 ∙ c .before .before .before .before .before .before .put-at .kept .0 ∙ simp length-set
+
+returns : tie.Need-returns
+returns c = entry-put (c .before .before .before .before .before .before .before .before .before .before .args .buf .now) _ _ _ (c .before .before .before .before .before .before .before .before .before .before .args .path .now) (c .before .before .before .before .before .before .before .before .before .before .args .at) (c .before .before .before .before .before .before .before .before .before .before .args .kind) _ (c .before .before .before .before .before .before .before .before .before .before .pre .0) refl refl (c .before .before .before .before .before .before .put-at .ensures) (c .before .before .copy-in .ensures)
+
+pub put-entry-spec : {M : Type 1} → statement M
+put-entry-spec =
+    tie.close
+    (tie.spec
+    slice-write-buf
+    add-put-at
+    put-at-requires
+    add-copy-in
+    copy-in-requires
+    same-length
+    returns)

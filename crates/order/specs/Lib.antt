@@ -1,0 +1,6 @@
+pub mod Spans
+pub mod Risen
+pub mod Laws
+pub mod Picks
+pub mod Theorems
+pub mod Examples
