@@ -1,6 +1,6 @@
 //! Links the proved static library if the repository has built it: `target/staticlib/libharness.a` under the
 //! repository's root, or the archive that `HARNESS` names. Its leaf calls are compared in any case, whole scripts
-//! only if it exports `pool_script`.
+//! only if it exports `pool_script`. `rt staticlib` builds for x86-64: on another processor it can't be linked.
 
 use std::env;
 use std::path::{Path, PathBuf};
@@ -24,6 +24,13 @@ fn main() {
         );
         return;
     };
+    if !fits_here(&archive) {
+        println!(
+            "cargo::warning={} is for another processor: every comparison with the library is skipped",
+            archive.display()
+        );
+        return;
+    }
     println!("cargo::rustc-link-search=native={}", folder.display());
     println!("cargo::rustc-link-lib=static=harness");
     println!("cargo::rustc-cfg=library");
@@ -34,6 +41,21 @@ fn main() {
     }
     if exports(&archive, b"record_check") && exports(&archive, b"record_lookups") {
         println!("cargo::rustc-cfg=records");
+    }
+}
+
+/// Whether the archive's first object is for the processor that is compiled for: the machine's number stands at byte
+/// 18 of an ELF object.
+fn fits_here(archive: &Path) -> bool {
+    let bytes = std::fs::read(archive).expect("the archive is there");
+    let Some(start) = bytes.windows(4).position(|part| part == b"\x7fELF") else {
+        return false;
+    };
+    let machine = bytes.get(start + 18..start + 20);
+    match env::var("CARGO_CFG_TARGET_ARCH").as_deref() {
+        Ok("x86_64") => machine == Some(&[62, 0]),
+        Ok("aarch64") => machine == Some(&[183, 0]),
+        _ => false,
     }
 }
 

@@ -246,10 +246,11 @@ pub fn lookups(
 }
 
 /// What is missing, in one line, if they are not.
-pub const MISSING: &str = "target/staticlib/libharness.a was not there when this was built";
+pub const MISSING: &str =
+    "target/staticlib/libharness.a was not there, or for another processor, when this was built";
 
 /// What is missing, in one line, if whole scripts can't be run on it.
-pub const NO_SCRIPTS: &str = "target/staticlib/libharness.a had no pool_script when this was built";
+pub const NO_SCRIPTS: &str = "target/staticlib/libharness.a had no pool_script, or was for another processor, when this was built";
 
 /// The linked library as a runner of whole scripts.
 pub struct Library(());
