@@ -1,0 +1,93 @@
+-- Records and flat numbers are the same: there and back, and row by row.
+use mathlib.Core.Path.{_≡_, refl, sym, ap, _∙_}
+use mathlib.Core.List.{List, [], _∷_, _++_, map, append-nil}
+use Prim.Native.Nat.{ℕ, zero, suc, _+_, _-_, _*_, _≤_, _<_}
+use native.Mathlib.Omega.{arith}
+use lib.ListN.{length, getD, drop, replicate, drop-of-length-le}
+use lib.Seq.{drop-cons, take-all, take-at}
+use Rattle.lists.specs.Blocks.{pad, pad-fits, cat, length-cat}
+use Rattle.rows.specs.Rows.{Row, unbound, bound, rowNums}
+use Rattle.records.specs.declared.Slot.{Slot}
+use Rattle.records.specs.Records.{slotOf, slotNums, numsOf, slotIn, slotsOf, loaded, stored}
+
+-- The numbers of records give the records back.
+pub slots-nums : (rs : List Slot) → slotsOf (numsOf rs) ≡ rs
+unfolding slotsOf numsOf cat slotNums
+slots-nums [] = refl
+slots-nums (r ∷ rs) = ap (λ (x : List Slot). r ∷ x) (slots-nums rs)
+
+-- The records of whole rows of numbers give the numbers back.
+pub nums-slots : (k : ℕ) (s : List ℕ) → length s ≡ k * 4 → numsOf (slotsOf s) ≡ s
+unfolding slotsOf numsOf cat slotNums
+nums-slots zero [] e = refl
+nums-slots zero (m ∷ s) e = absurd (omega arith)
+nums-slots (suc k) [] e = refl
+nums-slots (suc k) (m ∷ []) e = absurd (omega arith)
+nums-slots (suc k) (m ∷ a ∷ []) e = absurd (omega arith)
+nums-slots (suc k) (m ∷ a ∷ n ∷ []) e = absurd (omega arith)
+nums-slots (suc k) (m ∷ a ∷ n ∷ g ∷ s) e = ap (λ (x : List ℕ). m ∷ a ∷ n ∷ g ∷ x) (nums-slots k s (omega arith))
+
+-- As many records as there are rows of numbers.
+pub length-slots : (k : ℕ) (s : List ℕ) → length s ≡ k * 4 → length (slotsOf s) ≡ k
+unfolding slotsOf
+length-slots zero [] e = refl
+length-slots zero (m ∷ s) e = absurd (omega arith)
+length-slots (suc k) [] e = absurd (omega arith)
+length-slots (suc k) (m ∷ []) e = absurd (omega arith)
+length-slots (suc k) (m ∷ a ∷ []) e = absurd (omega arith)
+length-slots (suc k) (m ∷ a ∷ n ∷ []) e = absurd (omega arith)
+length-slots (suc k) (m ∷ a ∷ n ∷ g ∷ s) e = ap suc (length-slots k s (omega arith))
+
+pub length-nums : (rs : List Slot) → length (numsOf rs) ≡ length rs * 4
+unfolding numsOf slotNums
+length-nums rs = length-cat slotNums 4 (λ r. refl) rs
+
+-- A buffer of just the rows' length is all written, and all read.
+pub loaded-all : (rs : List Slot) (s : List ℕ) → length s ≡ length rs * 4 → loaded rs s ≡ numsOf rs
+unfolding loaded
+loaded-all rs s e = rw (drop-of-length-le s {i = length rs * 4} (omega arith)) (append-nil (numsOf rs))
+
+pub stored-all : (s : List ℕ) (rs : List Slot) → length s ≡ length rs * 4 → stored s rs ≡ slotsOf s
+unfolding stored
+stored-all s rs e = ap slotsOf (take-all (length rs * 4) s (omega arith))
+
+-- Rows that were loaded are stored back as they were.
+pub stored-loaded : (rs : List Slot) (s : List ℕ) → stored (loaded rs s) rs ≡ rs
+unfolding stored loaded
+stored-loaded rs s = ap slotsOf (take-at (numsOf rs) (drop (length rs * 4) s) (length rs * 4) (length-nums rs)) ∙ slots-nums rs
+
+-- The numbers of the records of rows are those of crate rows.
+pub nums-rows : (rs : List Row) → numsOf (map slotOf rs) ≡ cat rowNums rs
+unfolding numsOf cat slotNums slotOf rowNums
+nums-rows [] = refl
+nums-rows (unbound g ∷ rs) = ap (λ (x : List ℕ). 0 ∷ 0 ∷ 0 ∷ g ∷ x) (nums-rows rs)
+nums-rows (bound p g n d ∷ rs) = ap (λ (x : List ℕ). rowNums (bound p g n d) ++ x) (nums-rows rs)
+
+drop-zeros : (k n : ℕ) → drop {A = ℕ} k (replicate n 0) ≡ replicate (n - k) 0
+drop-zeros zero n = let e : n - 0 ≡ n = omega arith in rw e
+drop-zeros (suc k) zero = let e : 0 - suc k ≡ 0 = omega arith in rw e
+drop-zeros (suc k) (suc n) = let e : suc n - suc k ≡ n - k = omega arith in rw e (drop-zeros k n)
+
+-- Rows that are loaded into zeros are zero filled.
+pub zeros-loaded : (n : ℕ) (rs : List Slot) (z s : List ℕ) → length rs * 4 ≤ n → z ≡ replicate n 0 → s ≡ loaded rs z → s ≡ pad n (numsOf rs)
+unfolding loaded
+zeros-loaded n rs z s h e w =
+    let k : length (numsOf rs) ≡ length rs * 4 = length-nums rs in
+    w ∙ ap (λ (x : List ℕ). numsOf rs ++ drop (length rs * 4) x) e ∙ ap (λ (x : List ℕ). numsOf rs ++ x) (drop-zeros (length rs * 4) n ∙ ap (λ (x : ℕ). replicate (n - x) 0) (sym k)) ∙ sym (pad-fits n (numsOf rs) (omega arith))
+
+drop-one : (s : List ℕ) (a b : ℕ) → a + 1 ≡ b → a < length s → drop a s ≡ getD s a 0 ∷ drop b s
+drop-one s a b e h =
+    let z : b ≡ suc a = omega arith in
+    rw z (drop-cons s a 0 h)
+
+-- Where row i of the numbers is next, it is the first of the records that are left.
+pub slot-next : (s : List ℕ) (i : ℕ) → i * 4 + 4 ≤ length s → slotsOf (drop (i * 4) s) ≡ slotIn s i ∷ slotsOf (drop (i * 4 + 4) s)
+unfolding slotsOf slotIn
+slot-next s i h =
+    let a = i * 4 in
+    let d : drop a s ≡ getD s a 0 ∷ getD s (a + 1) 0 ∷ getD s (a + 2) 0 ∷ getD s (a + 3) 0 ∷ drop (a + 4) s =
+    drop-one s a (a + 1) refl (omega arith)
+    ∙ ap (λ (x : List ℕ). getD s a 0 ∷ x) (drop-one s (a + 1) (a + 2) (omega arith) (omega arith)
+    ∙ ap (λ (x : List ℕ). getD s (a + 1) 0 ∷ x) (drop-one s (a + 2) (a + 3) (omega arith) (omega arith)
+    ∙ ap (λ (x : List ℕ). getD s (a + 2) 0 ∷ x) (drop-one s (a + 3) (a + 4) (omega arith) (omega arith)))) in
+    ap slotsOf d
