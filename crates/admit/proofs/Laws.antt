@@ -1,27 +1,26 @@
--- What the filters rest on: paths of different keys are different, so a row or directory whose key none before it has is the first of its path.
-use Prim.Native.Nat.{ℕ, zero, suc, _+_, _*_, _≤_, _<_}
+-- What the filters rest on: paths of different keys are different, so a row whose key none before it has is the first of its path, and a
+-- directory the first of its bytes.
+use Prim.Native.Nat.{ℕ, _+_, _*_, _/_, _%_, _≤_, _<_}
 use mathlib.Core.Path.{_≡_, refl, sym, ap, _∙_}
-use mathlib.Core.List.{List, [], _∷_}
-use mathlib.Core.Bool.{Bool, true, false, not, cond, false≢true}
+use mathlib.Core.Logic.{inl, inr}
+use mathlib.Core.List.{List}
+use mathlib.Core.Bool.{Bool, true, false, not, false≢true}
 use native.Mathlib.Omega.{arith}
 use lib.Dec.{eqb, leb}
 use lib.ListN.{length, getD, take, drop}
 use borrow.Author.Tests.{eq-eqb, ne-eqb, lt-leb, le-leb, lt-ltb, le-ltb}
 use Rattle.le.specs.Le.{le, field, Bytes}
 use Rattle.le.specs.Fields.{field-back}
-use Rattle.lists.specs.Same.{sameBytes, same-bytes-refl}
+use Rattle.lists.specs.Same.{sameBytes, same-bytes-refl, same-length, same-bytes-other}
 use Rattle.text.specs.Greatest.{greatest}
-use Rattle.lists.specs.Runs.{tab, any-not}
-use Rattle.path.specs.Path.{samePath, normal, ancestors, keyOf}
-use Rattle.path.specs.Walk.{Above, upFrom}
+use Rattle.lists.specs.Runs.{any-not, any-none}
+use Rattle.path.specs.Path.{samePath, tail8, mixed, keyOf}
 use Rattle.path.specs.Theorems.{same-path-refl, key-same}
 use Rattle.rows.specs.Rows.{Row, at, isBound, pathOf, holds, find}
 use Rattle.rows.specs.Find.{holds-unbound, holds-path, find-is}
-use Rattle.dirs.specs.Dirs.{hasPath}
-use Rattle.dirs.specs.Rows.{dirAt, dirsOf}
-use Rattle.dirs.specs.Joined.{has-normal}
-use Rattle.admit.specs.Test.{isZero, part, dirFits, isAt, hasNum, firstOk, cellOk, firstHeld, upHeld, dirOk}
-use Rattle.admit.specs.Keys.{Keys}
+use Rattle.dirs.specs.Rows.{dirAt}
+use Rattle.admit.specs.Test.{isZero, part, dirFits, isAt, hasNum, firstOk, cellOk}
+use Rattle.admit.specs.Keys.{Keys, textKey, isDir, hasDir, Tail}
 use Rattle.admit.proofs.Turns.{and-no, and-on}
 
 -- paths of different keys are different
@@ -32,12 +31,11 @@ key-other a b n = go (samePath a b) refl
     go true e = absurd (n (key-same a b e))
     go false e = refl
 
--- where no key before i is key i, no path before it is path i
-apart-before : (f : ℕ → List ℕ) (n : ℕ) (ks : List ℕ) (i : ℕ) → Keys f n ks → i < n → hasNum ks i (getD ks i 0) ≡ false → (j : ℕ) → j < i → samePath (f j) (f i) ≡ false
+-- where no key before i is key i, none before it has the key of what stands at i
+keys-apart : (g : List ℕ → ℕ) (f : ℕ → List ℕ) (n : ℕ) (ks : List ℕ) (i : ℕ) → Keys g f n ks → i < n → hasNum ks i (getD ks i 0) ≡ false → (j : ℕ) → j < i → g (f j) ≡ g (f i) → ⊥
 unfolding isAt
-apart-before f n ks i K h e j l =
-    key-other (f j) (f i)
-    (λ u. false≢true (sym (any-not (isAt ks (getD ks i 0)) 0 i j e (omega arith) (omega arith)) ∙ eq-eqb _ _ (K .key j (omega arith) ∙ u ∙ sym (K .key i h))))
+keys-apart g f n ks i K h e j l u =
+    false≢true (sym (any-not (isAt ks (getD ks i 0)) 0 i j e (omega arith) (omega arith)) ∙ eq-eqb _ _ (K .key j (omega arith) ∙ u ∙ sym (K .key i h)))
 
 -- ---- slot rows
 
@@ -49,7 +47,7 @@ pub first-bound : (rs : List Row) (i r : ℕ) → isBound (at rs i) ≡ true →
 unfolding firstOk
 first-bound rs i r b e = rw (b, e)
 
-pub first-alone : (rs : List Row) (n : ℕ) (ks : List ℕ) (i : ℕ) → Keys (λ j. pathOf (at rs j)) n ks → i < n → isBound (at rs i) ≡ true → hasNum ks i (getD ks i 0) ≡ false
+pub first-alone : (rs : List Row) (n : ℕ) (ks : List ℕ) (i : ℕ) → Keys keyOf (λ j. pathOf (at rs j)) n ks → i < n → isBound (at rs i) ≡ true → hasNum ks i (getD ks i 0) ≡ false
     → true ≡ firstOk rs i
 first-alone rs n ks i K h b e =
     sym (eq-eqb i i refl)
@@ -57,22 +55,24 @@ first-alone rs n ks i K h b e =
   where
     other : (j : ℕ) → j < i → (t : Bool) → isBound (at rs j) ≡ t → holds (pathOf (at rs i)) (at rs j) ≡ false
     other j l false u = holds-unbound (pathOf (at rs i)) (at rs j) u
-    other j l true u = holds-path (pathOf (at rs i)) (at rs j) u ∙ apart-before (λ j. pathOf (at rs j)) n ks i K h e j l
+    other j l true u = holds-path (pathOf (at rs i)) (at rs j) u ∙ key-other (pathOf (at rs j)) (pathOf (at rs i)) (keys-apart keyOf (λ j. pathOf (at rs j)) n ks i K h e j l)
 
--- ---- directories
+-- ---- directories by bytes
 
-has-none : (f : ℕ → List ℕ) (p : List ℕ) (i k : ℕ) → ((j : ℕ) → i ≤ j → j < i + k → samePath (f j) p ≡ false) → hasPath (tab f i k) p ≡ false
-unfolding hasPath tab
-has-none f p i zero h = refl
-has-none f p i (suc k) h = rw (h i (omega arith) (omega arith)) (has-none f p (suc i) k (λ j a b. h j (omega arith) (omega arith)))
+-- texts of different keys are different
+pub text-other : (b p : List ℕ) (j x f : ℕ) → x ≡ textKey (dirAt b j) → f ≡ textKey p → (x ≡ f → ⊥) → false ≡ isDir b p j
+unfolding isDir
+text-other b p j x f h k n = sym (same-bytes-other (dirAt b j) p (λ u. n (h ∙ ap textKey u ∙ sym k)))
 
-pub none-before : (f : ℕ → List ℕ) (n : ℕ) (ks : List ℕ) (i : ℕ) (p : List ℕ) → Keys f n ks → i < n → p ≡ f i → hasNum ks i (getD ks i 0) ≡ false → false ≡ hasPath (tab f 0 i) p
-none-before f n ks i p K h q e =
-    sym (has-none f p 0 i (λ j a b. ap (samePath (f j)) q ∙ apart-before f n ks i K h e j (omega arith)))
+pub none-before : (b : List ℕ) (n : ℕ) (ks : List ℕ) (i : ℕ) (p : List ℕ) → Keys textKey (dirAt b) n ks → i < n → p ≡ dirAt b i → hasNum ks i (getD ks i 0) ≡ false → false ≡ hasDir b i p
+unfolding isDir
+none-before b n ks i p K h q e =
+    sym (any-none (isDir b p) 0 i
+    (λ j a l. same-bytes-other (dirAt b j) p (λ u. keys-apart textKey (dirAt b) n ks i K h e j (omega arith) (ap textKey (u ∙ q)))))
 
 -- fewer keys are keys, too
-pub keys-fewer : (f : ℕ → List ℕ) (n i : ℕ) (ks : List ℕ) → Keys f n ks → i ≤ n → Keys f i ks
-keys-fewer f n i ks K h = record { room = omega (arith, K .room); key = λ j l. K .key j (omega arith) }
+pub keys-fewer : (g : List ℕ → ℕ) (f : ℕ → List ℕ) (n i : ℕ) (ks : List ℕ) → Keys g f n ks → i ≤ n → Keys g f i ks
+keys-fewer g f n i ks K h = record { room = omega (arith, K .room); key = λ j l. K .key j (omega arith) }
 
 -- ---- a directory row's form
 
@@ -120,27 +120,16 @@ module _ (rs : List Row) (n : ℕ) (long : length rs ≡ n) (q : List ℕ) (k : 
   unfolding cellOk
   cell-last r h b e = and-on _ _ (not r) (lt-ltb (getD q k 0) (length rs) (omega arith)) (and-on _ _ (not r) (ap not b) (ap not e))
 
--- ---- a directory
+-- ---- keys and lengths of texts
 
--- the nearest ancestor ends where `above` says
-pub up-none : (ds : List (List ℕ)) (x : List ℕ) (e : ℕ) → Above x e → e ≡ 0 → true ≡ upHeld ds x
-unfolding firstHeld upFrom
-up-none ds x e A z = sym (ap (firstHeld ds) (A .gives) ∙ ap (λ (t : Bool). firstHeld ds (cond t [] (normal (take e x) ∷ ancestors (take e x)))) (eq-eqb e 0 z))
+pub text-key-is : (s : List ℕ) (x r : ℕ) → x ≡ tail8 s → r ≡ (x % 4294967296 + x / 4294967296 * 31 + length s % 65536) % 4294967296 → r ≡ textKey s
+unfolding textKey mixed
+text-key-is s x r h e = e ∙ ap (λ (y : ℕ). (y % 4294967296 + y / 4294967296 * 31 + length s % 65536) % 4294967296) h
 
-pub up-some : (ds : List (List ℕ)) (x : List ℕ) (e : ℕ) (r : Bool) → Above x e → (e ≡ 0 → ⊥) → r ≡ hasPath ds (take e x) → r ≡ upHeld ds x
-unfolding firstHeld upFrom
-up-some ds x e r A z h =
-    h ∙ sym (ap (firstHeld ds) (A .gives) ∙ ap (λ (t : Bool). firstHeld ds (cond t [] (normal (take e x) ∷ ancestors (take e x)))) (ne-eqb e 0 z) ∙ has-normal ds (take e x))
+pub length-other : (b p : List ℕ) (j k : ℕ) → k ≡ length (dirAt b j) → (k ≡ length p → ⊥) → false ≡ isDir b p j
+unfolding isDir
+length-other b p j k e n = sym (same-length eqb (dirAt b j) p (λ u. n (e ∙ u)))
 
-module _ (b : List ℕ) (m j : ℕ) (p : List ℕ) (q : p ≡ dirAt b j) where
-  pub dir-no : (r : Bool) → r ≡ sameBytes (normal p) p → r ≡ false → false ≡ dirOk b m j
-  unfolding dirOk
-  dir-no r e f = rw (← q) (and-no _ _ (sym e ∙ f))
-
-  pub dir-seen : (r t : Bool) → r ≡ sameBytes (normal p) p → r ≡ true → t ≡ hasPath (dirsOf b j) p → t ≡ true → false ≡ dirOk b m j
-  unfolding dirOk
-  dir-seen r t e f g h = rw (← q) (and-on _ _ false (sym e ∙ f) (and-no _ _ (ap not (sym g ∙ h))))
-
-  pub dir-up : (r t u : Bool) → r ≡ sameBytes (normal p) p → r ≡ true → t ≡ hasPath (dirsOf b j) p → t ≡ false → u ≡ upHeld (dirsOf b m) p → u ≡ dirOk b m j
-  unfolding dirOk
-  dir-up r t u e f g h k = rw (← q) (and-on _ _ u (sym e ∙ f) (and-on _ _ u (ap not (sym g ∙ h)) k))
+pub tail-inside : (x : List ℕ) (e k : ℕ) → Tail x e k → e ≤ length x → k ≤ length x
+tail-inside x e k (inl z) h = omega arith
+tail-inside x e k (inr t) h = omega (arith, t .0)

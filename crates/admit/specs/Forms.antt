@@ -92,7 +92,7 @@ unfolding isZero
 zero-part l a e h =
     eq-eqb _ _ (zero-front (drop a l) (e - a) (λ i p. getD-drop a l i 0 ∙ h (a + i) (omega arith) (omega arith)))
 
-part-rest : (l : List ℕ) (a : ℕ) → part l a (length l) ≡ drop a l
+pub part-rest : (l : List ℕ) (a : ℕ) → part l a (length l) ≡ drop a l
 part-rest l a = take-all (length l - a) (drop a l) (simp length-drop (omega arith))
 
 -- the front of a list whose rest is zero, filled up again

@@ -171,7 +171,7 @@ cell-passes s q n k ok e w h =
 
 -- ---- directories
 
-in-dirs : (b : List ℕ) (i k : ℕ) (d : List ℕ) → In d (tab (dirAt b) i k) → (j : ℕ) × (i ≤ j) × (j < i + k) × (dirAt b j ≡ d)
+pub in-dirs : (b : List ℕ) (i k : ℕ) (d : List ℕ) → In d (tab (dirAt b) i k) → (j : ℕ) × (i ≤ j) × (j < i + k) × (dirAt b j ≡ d)
 unfolding tab
 in-dirs b i zero d m = absurd (List·Memᴰ·not-nil m)
 in-dirs b i (suc k) d m = go (List·Memᴰ·cases-cons m) (in-dirs b (suc i) k d)
@@ -181,7 +181,7 @@ in-dirs b i (suc k) d m = go (List·Memᴰ·cases-cons m) (in-dirs b (suc i) k d
     go (inl e) ih = (i, omega arith, omega arith, sym e)
     go (inr m) ih = let r = ih m in (r .0, omega (arith, r .1), omega (arith, r .2), r .3)
 
-dirs-in : (b : List ℕ) (i k j : ℕ) → i ≤ j → j < i + k → In (dirAt b j) (tab (dirAt b) i k)
+pub dirs-in : (b : List ℕ) (i k j : ℕ) → i ≤ j → j < i + k → In (dirAt b j) (tab (dirAt b) i k)
 unfolding tab
 dirs-in b i zero j p q = absurd (omega arith)
 dirs-in b i (suc k) j p q = go (ℕ-discrete i j) (dirs-in b (suc i) k j)
@@ -206,7 +206,7 @@ once-tab b i (suc k) (more f d) j t p q h e = go (ℕ-discrete i j) (once-tab b 
     go (yes u) ih = f (subst (λ (x : List ℕ). In x (tab (dirAt b) (suc i) k)) (sym (ap (dirAt b) u ∙ e)) (dirs-in b (suc i) k t (omega arith) (omega arith)))
     go (no u) ih = ih (omega arith) q (omega arith) e
 
-dir-says : (b : List ℕ) (m j : ℕ) → dirOk b m j ≡ true
+pub dir-says : (b : List ℕ) (m j : ℕ) → dirOk b m j ≡ true
     → (normal (dirAt b j) ≡ dirAt b j) × (hasPath (dirsOf b j) (dirAt b j) ≡ false) × (upHeld (dirsOf b m) (dirAt b j) ≡ true)
 unfolding dirOk
 dir-says b m j e =
@@ -222,7 +222,7 @@ module _ (b : List ℕ) (m : ℕ) (e : allOf (dirOk b m) 0 m ≡ true) where
   dir : (j : ℕ) → j < m → (normal (dirAt b j) ≡ dirAt b j) × (hasPath (dirsOf b j) (dirAt b j) ≡ false) × (upHeld (dirsOf b m) (dirAt b j) ≡ true)
   dir j h = dir-says b m j (below (dirOk b m) m j e h)
 
-  normals : (d : List ℕ) → In d (dirsOf b m) → normal d ≡ d
+  pub normals : (d : List ℕ) → In d (dirsOf b m) → normal d ≡ d
   unfolding dirsOf
   normals d i = let r = in-dirs b 0 m d i in subst (λ (x : List ℕ). normal x ≡ x) (r .3) (dir (r .0) (omega (arith, r .2)) .0)
 

@@ -2,19 +2,19 @@
 // its tables are its own. Nothing is refused here and nothing is taken for granted: any record and any buffers may come.
 // Every lent byte is read, so no loop over bytes has an early exit, and paths are compared only where their keys agree.
 ghost use mathlib.Core.Path.{_≡_};
-ghost use mathlib.Core.Bool.{_||_};
+ghost use mathlib.Core.Bool.{_&&_, _||_};
 ghost use Prim.Native.Nat.{_+_, _*_, _≤_, _<_, max};
 ghost use lib.Dec.{eqb};
 ghost use lib.ListN.{length, getD};
 ghost use Rattle.lists.specs.Runs.{allOf};
+ghost use Rattle.lists.specs.Same.{sameBytes};
 ghost use Rattle.text.specs.Greatest.{greatest};
-ghost use Rattle.path.specs.Path.{samePath, keyOf};
+ghost use Rattle.path.specs.Path.{tail8, keyOf};
 ghost use Rattle.rows.specs.Rows.{at, pathOf, rowsOf, Flat};
-ghost use Rattle.dirs.specs.Dirs.{hasPath};
-ghost use Rattle.dirs.specs.Rows.{dirAt, dirsOf};
+ghost use Rattle.dirs.specs.Rows.{dirAt};
 ghost use Rattle.table.specs.State.{bufs};
-ghost use Rattle.admit.specs.Test.{sizesOk, restOk, bareOk, rowFits, dirFits, firstOk, rowOk, hasNum, cellOk, upHeld, dirOk, fitsOk, viewOk, isPool};
-ghost use Rattle.admit.specs.Keys.{Sized, Keys};
+ghost use Rattle.admit.specs.Test.{sizesOk, restOk, bareOk, rowFits, dirFits, firstOk, rowOk, hasNum, cellOk, dirOk, fitsOk, viewOk, isPool};
+ghost use Rattle.admit.specs.Keys.{Sized, Keys, textKey, isDir, hasDir, Tail, Upright, Fine, Judged};
 use table::Pool;
 
 // ---- sizes and zeros
@@ -224,7 +224,7 @@ fn row_key(nums: &[u64], names: &[u8], cap: usize, n: usize, i: usize) -> u32
 // The keys of the rows' paths.
 fn row_keys(nums: &[u64], names: &[u8], cap: usize, n: usize, keys: &mut [u32])
     requires { ⌜ Flat cap n (now nums) (now names) × (n ≤ length (now keys)) ⌝ }
-    ensures { λ _. ⌜ Keys (λ i. pathOf (at (rowsOf (now (nums .entry)) (now (names .entry)) n) i)) n (now (keys .exit)) ⌝ }
+    ensures { λ _. ⌜ Keys keyOf (λ i. pathOf (at (rowsOf (now (nums .entry)) (now (names .entry)) n) i)) n (now (keys .exit)) ⌝ }
 {
     let mut i = 0;
     while i < n {
@@ -235,7 +235,7 @@ fn row_keys(nums: &[u64], names: &[u8], cap: usize, n: usize, keys: &mut [u32])
 
 // Whether row i is unbound, or no row before it has its path. Only where a key before it is the same are paths compared.
 fn first_ok(nums: &[u64], names: &[u8], keys: &[u32], cap: usize, n: usize, i: usize) -> bool
-    requires { ⌜ Flat cap n (now nums) (now names) × Keys (λ j. pathOf (at (rowsOf (now nums) (now names) n) j)) n (now keys) × (i < n) ⌝ }
+    requires { ⌜ Flat cap n (now nums) (now names) × Keys keyOf (λ j. pathOf (at (rowsOf (now nums) (now names) n) j)) n (now keys) × (i < n) ⌝ }
     ensures { λ r. ⌜ r ≡ firstOk (rowsOf (now (nums .entry)) (now (names .entry)) n) i ⌝ }
 {
     if !rows::is_bound(nums, names, cap, n, i) {
@@ -251,7 +251,7 @@ fn first_ok(nums: &[u64], names: &[u8], keys: &[u32], cap: usize, n: usize, i: u
 
 // Whether row i is below the counter c, and its path is text and its own.
 fn row_ok(nums: &[u64], names: &[u8], keys: &[u32], cap: usize, n: usize, c: u64, i: usize) -> bool
-    requires { ⌜ Flat cap n (now nums) (now names) × Keys (λ j. pathOf (at (rowsOf (now nums) (now names) n) j)) n (now keys) × (i < n) ⌝ }
+    requires { ⌜ Flat cap n (now nums) (now names) × Keys keyOf (λ j. pathOf (at (rowsOf (now nums) (now names) n) j)) n (now keys) × (i < n) ⌝ }
     ensures { λ r. ⌜ r ≡ rowOk c (rowsOf (now (nums .entry)) (now (names .entry)) n) i ⌝ }
 {
     if c <= rows::row_generation(nums, names, cap, n, i) {
@@ -267,7 +267,7 @@ fn row_ok(nums: &[u64], names: &[u8], keys: &[u32], cap: usize, n: usize, c: u64
 
 // Whether each row is.
 fn rows_ok(nums: &[u64], names: &[u8], keys: &[u32], cap: usize, n: usize, c: u64) -> bool
-    requires { ⌜ Flat cap n (now nums) (now names) × Keys (λ j. pathOf (at (rowsOf (now nums) (now names) n) j)) n (now keys) ⌝ }
+    requires { ⌜ Flat cap n (now nums) (now names) × Keys keyOf (λ j. pathOf (at (rowsOf (now nums) (now names) n) j)) n (now keys) ⌝ }
     ensures { λ r. ⌜ r ≡ allOf (rowOk c (rowsOf (now (nums .entry)) (now (names .entry)) n)) 0 n ⌝ }
 {
     let mut i = 0;
@@ -339,20 +339,64 @@ fn cells_ok(nums: &[u64], names: &[u8], cap: usize, n: usize, q: [u8; 64], free:
 
 // ---- directories
 
+// A directory is normal if its parent's row is and no slash from there on is idle, so only the last component is looked at. Rows that are
+// normal are one path only if they are the same bytes, so keys and comparisons go by bytes.
+
+// Whether all was the same so far, and a is b.
+fn still(same: bool, a: u8, b: u8) -> bool
+    ensures { λ r. ⌜ r ≡ (same && eqb a b) ⌝ }
+{
+    if a == b { same } else { false }
+}
+
+// Whether a and b, of one length, hold the same bytes.
+fn same_run(a: &[u8], b: &[u8]) -> bool
+    requires { ⌜ length (now a) ≡ length (now b) ⌝ }
+    ensures { λ r. ⌜ r ≡ sameBytes (now (a .entry)) (now (b .entry)) ⌝ }
+{
+    let mut same = true;
+    let mut i = 0;
+    while i < a.len() {
+        same = still(same, a[i], b[i]);
+        i += 1;
+    }
+    same
+}
+
+// The last eight bytes of a text as a number, or as many as it has.
+fn last_eight(s: &[u8]) -> u64
+    ensures { λ r. ⌜ r ≡ tail8 (now (s .entry)) ⌝ }
+{
+    let n = s.len();
+    if n < 8 {
+        return le::get_at(s, 0, n);
+    }
+    le::get_at(s, n - 8, 8)
+}
+
+// The key of a text, whatever it spells.
+fn text_key(s: &[u8]) -> u32
+    ensures { λ r. ⌜ r ≡ textKey (now (s .entry)) ⌝ }
+{
+    let x = last_eight(s);
+    let n = (s.len() % 65536) as u64;
+    ((x % 4294967296 + x / 4294967296 * 31 + n) % 4294967296) as u32
+}
+
 // The key of directory j.
 fn dir_key(dirs: &[u8], j: usize) -> u32
     requires { ⌜ j * 482 + 482 ≤ length (now dirs) ⌝ }
-    ensures { λ r. ⌜ r ≡ keyOf (dirAt (now (dirs .entry)) j) ⌝ }
+    ensures { λ r. ⌜ r ≡ textKey (dirAt (now (dirs .entry)) j) ⌝ }
 {
     let k = dirs::dir_len(dirs, j);
     let at = j * 482 + 2;
-    path::key(&dirs[at..at + k])
+    text_key(&dirs[at..at + k])
 }
 
 // The keys of the directories.
 fn dir_keys(dirs: &[u8], m: usize, keys: &mut [u32])
     requires { ⌜ (m * 482 ≤ length (now dirs)) × (m ≤ length (now keys)) ⌝ }
-    ensures { λ _. ⌜ Keys (dirAt (now (dirs .entry))) m (now (keys .exit)) ⌝ }
+    ensures { λ _. ⌜ Keys textKey (dirAt (now (dirs .entry))) m (now (keys .exit)) ⌝ }
 {
     let mut j = 0;
     while j < m {
@@ -361,25 +405,27 @@ fn dir_keys(dirs: &[u8], m: usize, keys: &mut [u32])
     }
 }
 
-// Whether directory j is p, whose key is f.
+// Whether directory j is p, whose key is f, byte for byte.
 fn dir_is(dirs: &[u8], keys: &[u32], j: usize, f: u32, p: &[u8]) -> bool
-    requires { ⌜ (j * 482 + 482 ≤ length (now dirs)) × (j < length (now keys)) × (getD (now keys) j 0 ≡ keyOf (dirAt (now dirs) j)) × (f ≡ keyOf (now p)) ⌝ }
-    ensures { λ r. ⌜ r ≡ samePath (dirAt (now (dirs .entry)) j) (now (p .entry)) ⌝ }
+    requires { ⌜ (j * 482 + 482 ≤ length (now dirs)) × (j < length (now keys)) × (getD (now keys) j 0 ≡ textKey (dirAt (now dirs) j)) × (f ≡ textKey (now p)) ⌝ }
+    ensures { λ r. ⌜ r ≡ isDir (now (dirs .entry)) (now (p .entry)) j ⌝ }
 {
     if keys[j] != f {
         return false;
     }
     let k = dirs::dir_len(dirs, j);
+    if k != p.len() {
+        return false;
+    }
     let at = j * 482 + 2;
-    path::same_path(&dirs[at..at + k], p)
+    same_run(&dirs[at..at + k], p)
 }
 
-// Whether p is one of the first m directories.
-fn has_dir(dirs: &[u8], keys: &[u32], m: usize, p: &[u8]) -> bool
-    requires { ⌜ (m * 482 ≤ length (now dirs)) × Keys (dirAt (now dirs)) m (now keys) ⌝ }
-    ensures { λ r. ⌜ r ≡ hasPath (dirsOf (now (dirs .entry)) m) (now (p .entry)) ⌝ }
+// Whether p, whose key is f, is one of the first m directories, byte for byte.
+fn has_dir(dirs: &[u8], keys: &[u32], m: usize, f: u32, p: &[u8]) -> bool
+    requires { ⌜ (m * 482 ≤ length (now dirs)) × Keys textKey (dirAt (now dirs)) m (now keys) × (f ≡ textKey (now p)) ⌝ }
+    ensures { λ r. ⌜ r ≡ hasDir (now (dirs .entry)) m (now (p .entry)) ⌝ }
 {
-    let f = path::key(p);
     let mut j = 0;
     while j < m {
         if dir_is(dirs, keys, j, f, p) {
@@ -390,48 +436,91 @@ fn has_dir(dirs: &[u8], keys: &[u32], m: usize, p: &[u8]) -> bool
     false
 }
 
-// Whether a directory before j, whose path is p, is the same path.
+// The same, with a look at the rows beside row j first: there a directory's parent stands most often.
+fn has_near(dirs: &[u8], keys: &[u32], m: usize, j: usize, p: &[u8]) -> bool
+    requires { ⌜ (m * 482 ≤ length (now dirs)) × Keys textKey (dirAt (now dirs)) m (now keys) × (j < m) ⌝ }
+    ensures { λ r. ⌜ r ≡ hasDir (now (dirs .entry)) m (now (p .entry)) ⌝ }
+{
+    let f = text_key(p);
+    if 0 < j {
+        if dir_is(dirs, keys, j - 1, f, p) {
+            return true;
+        }
+    }
+    if j + 1 < m {
+        if dir_is(dirs, keys, j + 1, f, p) {
+            return true;
+        }
+    }
+    has_dir(dirs, keys, m, f, p)
+}
+
+// Whether a directory before j, whose path is p, is the same bytes.
 fn seen_before(dirs: &[u8], keys: &[u32], m: usize, j: usize, p: &[u8]) -> bool
-    requires { ⌜ (m * 482 ≤ length (now dirs)) × Keys (dirAt (now dirs)) m (now keys) × (j < m) × (now p ≡ dirAt (now dirs) j) ⌝ }
-    ensures { λ r. ⌜ r ≡ hasPath (dirsOf (now (dirs .entry)) j) (now (p .entry)) ⌝ }
+    requires { ⌜ (m * 482 ≤ length (now dirs)) × Keys textKey (dirAt (now dirs)) m (now keys) × (j < m) × (now p ≡ dirAt (now dirs) j) ⌝ }
+    ensures { λ r. ⌜ r ≡ hasDir (now (dirs .entry)) j (now (p .entry)) ⌝ }
 {
     if !has_key(keys, j, keys[j]) {
         return false;
     }
-    has_dir(dirs, keys, j, p)
+    has_dir(dirs, keys, j, keys[j], p)
 }
 
-// Whether the nearest ancestor of x, if it has one, is a directory.
-fn up_held(dirs: &[u8], keys: &[u32], m: usize, x: &[u8]) -> bool
-    requires { ⌜ (m * 482 ≤ length (now dirs)) × Keys (dirAt (now dirs)) m (now keys) ⌝ }
-    ensures { λ r. ⌜ r ≡ upHeld (dirsOf (now (dirs .entry)) m) (now (x .entry)) ⌝ }
+// From where on x has to be looked at, if its front that ends at e is known to be normal: from the slash at e on, or else from 0 on.
+fn tail_at(x: &[u8], e: usize) -> usize
+    requires { ⌜ e ≤ length (now x) ⌝ }
+    ensures { λ r. ⌜ Tail (now (x .entry)) e r ⌝ }
+{
+    if e < 2 {
+        return 0;
+    }
+    if x.len() - e < 2 {
+        return 0;
+    }
+    if x[e] != b'/' {
+        return 0;
+    }
+    e
+}
+
+// Whether x, which is directory j, is normal if the directories are, and its nearest ancestor, if it has one, is a directory.
+fn up_held(dirs: &[u8], keys: &[u32], m: usize, j: usize, x: &[u8]) -> bool
+    requires { ⌜ (m * 482 ≤ length (now dirs)) × Keys textKey (dirAt (now dirs)) m (now keys) × (j < m) × (now x ≡ dirAt (now dirs) j) ⌝ }
+    ensures { λ r. ⌜ Judged (Upright (now (dirs .entry)) m j) (now (dirs .entry)) m r ⌝ }
 {
     let e = path::above(x);
+    let k = tail_at(x, e);
+    if !spelling::is_normal(&x[k..]) {
+        return false;
+    }
     if e == 0 {
         return true;
     }
-    has_dir(dirs, keys, m, &x[..e])
+    if e == k {
+        return has_near(dirs, keys, m, j, &x[..e]);
+    }
+    if e == 1 {
+        return has_near(dirs, keys, m, j, &x[..e]);
+    }
+    dirs::dir_find(dirs, m, &x[..e])
 }
 
-// Whether directory j is normal, the first of its path, and its nearest ancestor a directory.
+// Whether directory j is the first of its bytes, and as `up_held` says.
 fn dir_ok(dirs: &[u8], keys: &[u32], m: usize, j: usize) -> bool
-    requires { ⌜ (m * 482 ≤ length (now dirs)) × Keys (dirAt (now dirs)) m (now keys) × (j < m) ⌝ }
-    ensures { λ r. ⌜ r ≡ dirOk (now (dirs .entry)) m j ⌝ }
+    requires { ⌜ (m * 482 ≤ length (now dirs)) × Keys textKey (dirAt (now dirs)) m (now keys) × (j < m) ⌝ }
+    ensures { λ r. ⌜ Judged (Fine (now (dirs .entry)) m j) (now (dirs .entry)) m r ⌝ }
 {
     let k = dirs::dir_len(dirs, j);
     let at = j * 482 + 2;
-    if !spelling::is_normal(&dirs[at..at + k]) {
-        return false;
-    }
     if seen_before(dirs, keys, m, j, &dirs[at..at + k]) {
         return false;
     }
-    up_held(dirs, keys, m, &dirs[at..at + k])
+    up_held(dirs, keys, m, j, &dirs[at..at + k])
 }
 
-// Whether each directory is.
+// Whether each directory is normal, the first of its path, and its nearest ancestor a directory.
 fn dirs_ok(dirs: &[u8], keys: &[u32], m: usize) -> bool
-    requires { ⌜ (m * 482 ≤ length (now dirs)) × Keys (dirAt (now dirs)) m (now keys) ⌝ }
+    requires { ⌜ (m * 482 ≤ length (now dirs)) × Keys textKey (dirAt (now dirs)) m (now keys) ⌝ }
     ensures { λ r. ⌜ r ≡ allOf (dirOk (now (dirs .entry)) m) 0 m ⌝ }
 {
     let mut j = 0;

@@ -1,12 +1,12 @@
 -- The ways out of a rename's steps, over plain values: each takes the callees' contracts and gives the equation of one exit.
-use Prim.Native.Nat.{ℕ, _+_, _^_, _≤_, _<_}
+use Prim.Native.Nat.{ℕ, _^_, _≤_, _<_}
 use native.Mathlib.Omega.{arith}
-use mathlib.Core.Path.{_≡_, refl, sym, ap, ap₂, subst, _∙_}
-use mathlib.Core.Bool.{Bool, true, false, cond, false≢true}
+use mathlib.Core.Path.{_≡_, sym, ap, ap₂, subst, _∙_}
+use mathlib.Core.Bool.{Bool, true, false, cond}
 use mathlib.Core.List.{List}
 use lib.Dec.{eqb, ltb}
 use lib.ListN.{length, set}
-use borrow.Author.Tests.{eq-eqb, ne-eqb, eqb-true, lt-ltb, le-ltb, ltb-true, ltb-false}
+use borrow.Author.Tests.{eq-eqb, ne-eqb, lt-ltb, le-ltb}
 use Rattle.lists.specs.Distinct.{In}
 use Rattle.path.specs.Path.{samePath}
 use Rattle.header.specs.declared.Header.{Header}
@@ -15,7 +15,6 @@ use Rattle.device.specs.declared.Geometry.{Geometry}
 use Rattle.device.specs.Device.{Dev, Shape}
 use Rattle.rows.specs.Rows.{Row, bound, at, isBound, lenOf, resized, find, rowsOf, Flat}
 use Rattle.rows.specs.Laws.{length-rows}
-use Rattle.rows.specs.Find.{find-holds, holds-bound}
 use Rattle.dirs.specs.Dirs.{registered}
 use Rattle.dirs.specs.Rows.{dirsOf}
 use Rattle.table.specs.declared.Pool.{Pool}
@@ -27,11 +26,12 @@ use Rattle.steps.specs.Steps.{fineM, putM, withRow, releaseM}
 use Rattle.steps.specs.Laws.{world-is, ready-fit, lent-stays, row-flat}
 use Rattle.handles.specs.Outcome.{Outcome, outcome, flatO, None, came}
 use Rattle.handles.specs.Laws.{stays}
-use Rattle.files.specs.Files.{isFile, roomFor, registers, binds}
-use Rattle.files.specs.Laws.{room-made}
+use Rattle.files.specs.Files.{roomFor, registers, binds}
 use Rattle.renames.specs.declared.Course.{Course}
-use Rattle.renames.specs.Rename.{stopped, needs, admitted, frontM, rebindM, vacatedM, settledM, renamedM, renameM}
-use Rattle.renames.specs.Laws.{MayGo, rebind-fit, vacated-fit, Stays, vacated-stays, Rebound, rebound}
+use Rattle.renames.specs.Rename.{stopped, admitted, frontM, rebindM, vacatedM, settledM, renamedM, renameM}
+use Rattle.renames.specs.Laws.{MayGo, vacated-fit, Stays, vacated-stays, Rebound, rebound}
+use Rattle.renames.specs.Keeps.{Goes, front-means, from-bound, room, left, rebound-fit, to-may-go}
+use Rattle.renames.specs.Keeps as Keeps
 
 -- the rows and the directories of the buffers
 abbrev pub rowsIn : Bufs → List Row
@@ -100,35 +100,6 @@ module _ (b : Bufs) (from to : List ℕ) where
         pub front-goes : n ≡ 0 → record { out = 0; go = true; from = i; to = j } ≡ frontM from to (view b)
         unfolding frontM view
         front-goes o = let z : eqb n 0 ≡ true = eq-eqb n 0 o in rw (fits, q, is-file h, room-is, z, ← e, ← ej)
-
--- what it means to go on
-pub record Goes (from to : List ℕ) (s : State) (f : Course) : Type 0 where
-  pub short : length to ≤ 480
-  pub source : f .from ≡ find from (s .rows)
-  pub target : f .to ≡ find to (s .rows)
-  pub held : find from (s .rows) < length (s .rows)
-  pub room : roomFor (needs to s) to (s .dirCap) (s .dirs) (s .counter) ≡ 0
-
-pub front-means : (from to : List ℕ) (s : State) → frontM from to s .go ≡ true → Goes from to s (frontM from to s)
-unfolding frontM
-front-means from to s t =
-    first (ltb 480 (length to)) (samePath from to) (ltb (find from (s .rows)) (length (s .rows))) (eqb (roomFor (needs to s) to (s .dirCap) (s .dirs) (s .counter)) 0) refl refl refl t
-  where
-    first : (a b c d : Bool) → ltb 480 (length to) ≡ a → ltb (find from (s .rows)) (length (s .rows)) ≡ c → eqb (roomFor (needs to s) to (s .dirCap) (s .dirs) (s .counter)) 0 ≡ d
-        → cond a (stopped 4) (cond b (stopped (cond c 0 5)) (cond c (cond d (record { out = 0; go = true; from = find from (s .rows); to = find to (s .rows) }) (stopped (roomFor (needs to s) to (s .dirCap) (s .dirs) (s .counter)))) (stopped 5))) .go ≡ true
-        → Goes from to s (cond a (stopped 4) (cond b (stopped (cond c 0 5)) (cond c (cond d (record { out = 0; go = true; from = find from (s .rows); to = find to (s .rows) }) (stopped (roomFor (needs to s) to (s .dirCap) (s .dirs) (s .counter)))) (stopped 5))))
-    first true b c d x y z o = absurd (false≢true o)
-    first false true c d x y z o = absurd (false≢true o)
-    first false false true true x y z o =
-        record {
-          short = ltb-false 480 (length to) x;
-          source = refl;
-          target = refl;
-          held = ltb-true (find from (s .rows)) (length (s .rows)) y;
-          room = eqb-true (roomFor (needs to s) to (s .dirCap) (s .dirs) (s .counter)) 0 z;
-        }
-    first false false true false x y z o = absurd (false≢true o)
-    first false false false d x y z o = absurd (false≢true o)
 
 -- ---- rebind
 
@@ -266,38 +237,37 @@ module _ (g : Geometry) (l : Lent) (R : Ready g l) (plan from to : List ℕ) (f 
     goes : Goes from to (view (l .bufs)) F
     goes = front-means from to (view (l .bufs)) going
 
-    from-is : f .from ≡ find from (rowsIn (l .bufs))
-    unfolding view
-    from-is = ap (λ (x : Course). x .from) ef ∙ goes .source
+    fit : Fit g (viewW l)
+    fit = ready-fit g l R
 
-    to-is : f .to ≡ find to (rowsIn (l .bufs))
-    unfolding view
-    to-is = ap (λ (x : Course). x .to) ef ∙ goes .target
+    goes-world : Goes from to (viewW l .state) F
+    unfolding viewW
+    goes-world = goes
+
+    from-is : f .from ≡ F .from
+    from-is = ap (λ (x : Course). x .from) ef
+
+    to-is : f .to ≡ F .to
+    to-is = ap (λ (x : Course). x .to) ef
 
     pub from-held : f .from < l .bufs .pool .held
-    unfolding view
-    from-held = omega (arith, from-is, goes .held, held-rows (l .bufs))
+    unfolding viewW view
+    from-held = omega (arith, from-is, Keeps.from-held plan g from to (viewW l) fit F goes-world, held-rows (l .bufs))
 
-    from-bound : isBound (at (rowsIn (l .bufs)) (f .from)) ≡ true
-    unfolding view
-    from-bound =
-        subst (λ (k : ℕ). isBound (at (rowsIn (l .bufs)) k) ≡ true) (sym from-is)
-        (holds-bound from (at (rowsIn (l .bufs)) (find from (rowsIn (l .bufs)))) (find-holds from (rowsIn (l .bufs)) (goes .held)))
+    bound-there : isBound (at (rowsIn (l .bufs)) (f .from)) ≡ true
+    unfolding viewW view
+    bound-there = subst (λ (k : ℕ). isBound (at (rowsIn (l .bufs)) k) ≡ true) (sym from-is) (from-bound plan g from to (viewW l) fit F goes-world)
 
-    made : (length (registered (dirsIn (l .bufs)) to) ≤ l .bufs .pool .«dir_rows») × (l .bufs .pool .counter + needs to (view (l .bufs)) ≤ 2 ^ 63)
-    unfolding view
-    made = room-made (needs to (view (l .bufs))) to (l .bufs .pool .«dir_rows») (dirsIn (l .bufs)) (l .bufs .pool .counter) (goes .room)
+    made : length (registered (dirsIn (l .bufs)) to) ≤ l .bufs .pool .«dir_rows»
+    unfolding viewW view
+    made = room plan g from to (viewW l) fit F goes-world .0
 
-    some : (x : Bool) → 1 ≤ cond x 2 1
-    some true = omega arith
-    some false = omega arith
-
-    left : l .bufs .pool .counter < 2 ^ 63
-    unfolding view
-    left = omega (arith, made .1, some (ltb (find to (rowsIn (l .bufs))) (length (rowsIn (l .bufs)))))
+    below : l .bufs .pool .counter < 2 ^ 63
+    unfolding viewW view
+    below = left plan g from to (viewW l) fit F goes-world
 
     pub rebind-ready : Ready g l × ((f .from < l .bufs .pool .held) × (isBound (at (rowsIn (l .bufs)) (f .from)) ≡ true) × (l .bufs .pool .counter < 2 ^ 63) × (length to ≤ 480))
-    rebind-ready = (R, (from-held, from-bound, left, goes .short))
+    rebind-ready = (R, (from-held, bound-there, below, goes .short))
 
     module _ (e : Dev) (q : Pool) (l₁ : List ℕ) (v : lent e (bufs q l₁ (l .bufs .names) (l .bufs .dirs)) ≡ flatW (rebindM plan g (f .from) to (viewW l))) where
       abbrev w₁ : World
@@ -319,13 +289,8 @@ module _ (g : Geometry) (l : Lent) (R : Ready g l) (plan from to : List ℕ) (f 
           let k : fineM (w₁ .dev) ≡ false = sym (ap fineM at-dev) ∙ ne-eqb (e .place .last) 0 ne in
           rw (going, k) (ap (λ (x : Lent). outcome (x .dev .place .last) tt x) moved)
 
-      w₁-fit : Fit g w₁
-      unfolding viewW view
-      w₁-fit =
-          rebind-fit plan g (viewW l) (ready-fit g l R) (F .from) to (omega (arith, goes .source, goes .held)) left
-
       ready₂ : (viewW (lent e b₂) ≡ w₁) × Ready g (lent e b₂)
-      ready₂ = world-is g w₁ (lent e b₂) w₁-fit moved
+      ready₂ = world-is g w₁ (lent e b₂) (rebound-fit plan g from to (viewW l) fit F goes-world) moved
 
       view-is : view b₂ ≡ w₁ .state
       unfolding viewW
@@ -342,12 +307,8 @@ module _ (g : Geometry) (l : Lent) (R : Ready g l) (plan from to : List ℕ) (f 
       to-goes : f .to < q .held → (In (f .to) (queueOf q) → ⊥) × (q .counter < 2 ^ 63)
       unfolding view
       to-goes h =
-          let j = find to (rowsIn (l .bufs)) in
-          let k : j < length (rowsIn (l .bufs)) = omega (arith, to-is, held-after, held-rows (l .bufs)) in
-          let c : l .bufs .pool .counter + 2 ≤ 2 ^ 63 = subst (λ (x : Bool). l .bufs .pool .counter + cond x 2 1 ≤ 2 ^ 63) (lt-ltb j (length (rowsIn (l .bufs))) k) (made .1) in
-          let n : q .counter ≡ l .bufs .pool .counter + 1 = after .counter in
-          let o : isBound (at (rowsIn (l .bufs)) j) ≡ true = holds-bound to (at (rowsIn (l .bufs)) j) (find-holds to (rowsIn (l .bufs)) k) in
-          (λ m. false≢true (sym (R .pool .valid .idle j (subst (λ (x : ℕ). In x (queueOf (l .bufs .pool))) to-is (subst (λ (x : List ℕ). In (f .to) x) (after .queue) m))) ∙ o), omega (arith, n, c))
+          let m : MayGo (f .to) (view b₂) = subst (λ (j : ℕ). MayGo j (view b₂)) (sym to-is) (subst (MayGo (F .to)) (sym view-is) (to-may-go plan g from to (viewW l) fit F goes-world)) in
+          m (omega (arith, held-rows b₂))
 
       pub settle-ready : Ready g (lent e b₂) × ((f .to < q .held → (In (f .to) (queueOf q) → ⊥) × (q .counter < 2 ^ 63))
           × ((f .from < q .held) × (length to ≤ 480) × (length (registered (dirsOf (l .bufs .dirs) (q .dirs)) to) ≤ q .«dir_rows»)))
@@ -355,7 +316,7 @@ module _ (g : Geometry) (l : Lent) (R : Ready g l) (plan from to : List ℕ) (f 
       settle-ready =
           let d : dirsOf (l .bufs .dirs) (q .dirs) ≡ dirsIn (l .bufs) = after .dirs in
           let p : q .«dir_rows» ≡ l .bufs .pool .«dir_rows» = after .dirCap in
-          (ready₂ .1, (to-goes, (omega (arith, from-held, held-after), goes .short, rw (d, p) (made .0))))
+          (ready₂ .1, (to-goes, (omega (arith, from-held, held-after), goes .short, rw (d, p) made)))
 
       pub rename-done : e .place .last ≡ 0 → (len : ℕ) → len ≡ lenOf (at (rowsIn (l .bufs)) (f .from)) → (x : Outcome None Lent)
           → x ≡ flatO (settledM plan g (f .from) (f .to) to (l .bufs .pool .counter) len (viewW (lent e b₂))) → x ≡ flatO (renameM plan g from to (viewW l))

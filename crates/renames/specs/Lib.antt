@@ -1,2 +1,3 @@
 pub mod Rename
 pub mod Laws
+pub mod Keeps

@@ -1,8 +1,10 @@
--- Carried by `key-other`: paths of different keys are different.
+-- Carried by `text-other` and `length-other`: texts of different keys or lengths are different.
 use mathlib.Core.Path.{sym, ap, _∙_}
-use Rattle.path.specs.Path.{samePath}
+use lib.ListN.{length}
+use Rattle.lists.specs.Same.{sameBytes}
 use Rattle.dirs.specs.RowLaws.{dir-part, dir-short}
-use Rattle.admit.proofs.Laws.{key-other}
+use Rattle.admit.specs.Keys.{isDir}
+use Rattle.admit.proofs.Laws.{text-other, length-other}
 use native.Mathlib.Omega.{arith}
 use borrow.Author.Needs.{needs}
 use Rattle.admit.proofs.dir_is.Statement.{statement}
@@ -15,10 +17,13 @@ shared-slice-read-if1 : tie.Need-shared-slice-read-if1
 shared-slice-read-if1 c = search needs
 
 returns : tie.Need-returns
-returns c = sym (key-other _ _ (λ u. c .if1 .taken (c .before .before .before .before .before .pre .2 ∙ u ∙ sym (c .before .before .before .before .before .pre .3))))
+returns c = text-other _ _ _ _ _ (c .before .before .before .before .before .pre .2) (c .before .before .before .before .before .pre .3) (c .if1 .taken)
 
 dir-len-requires : tie.Need-dir-len-requires
 dir-len-requires c κs = search needs
+
+returns-2 : tie.Need-returns-2
+returns-2 c = length-other _ _ _ _ (c .before .dir-len .ensures) (c .if2 .taken)
 
 mul-at : tie.Need-mul-at
 mul-at c = search needs
@@ -26,23 +31,24 @@ mul-at c = search needs
 add-at : tie.Need-add-at
 add-at c = search needs
 
-add-same-path : tie.Need-add-same-path
-add-same-path c = omega (arith, dir-short (c .before .before .before .before .before .before .args .dirs .now) (c .before .before .before .before .before .before .args .j))
+add-same-run : tie.Need-add-same-run
+add-same-run c = omega (arith, dir-short (c .before .before .before .before .before .before .before .args .dirs .now) (c .before .before .before .before .before .before .before .args .j))
 
-sub-same-path : tie.Need-sub-same-path
-sub-same-path c = search needs
+sub-same-run : tie.Need-sub-same-run
+sub-same-run c = search needs
 
-part-same-path-start : tie.Need-part-same-path-start
-part-same-path-start c = search needs
+part-same-run-start : tie.Need-part-same-run-start
+part-same-run-start c = search needs
 
-part-same-path-end : tie.Need-part-same-path-end
-part-same-path-end c = omega (arith, dir-short (c .before .before .before .before .before .before .args .dirs .now) (c .before .before .before .before .before .before .args .j))
+part-same-run-end : tie.Need-part-same-run-end
+part-same-run-end c = omega (arith, dir-short (c .before .before .before .before .before .before .before .args .dirs .now) (c .before .before .before .before .before .before .before .args .j))
 
-same-path-requires : tie.Need-same-path-requires
-same-path-requires c κs = search needs
+same-run-requires : tie.Need-same-run-requires
+same-run-requires c κs = ap length (dir-part (c .before .before .before .before .before .before .before .before .args .dirs .now) (c .before .before .before .before .before .before .before .before .args .j) _ (c .before .before .dir-len .ensures)) ∙ sym (c .before .before .dir-len .ensures) ∙ c .before .if2 .left
 
-returns-2 : tie.Need-returns-2
-returns-2 c = c .same-path .ensures ∙ ap (λ (x : _). samePath x (c .before .before .before .before .before .before .before .before .args .p .now)) (dir-part (c .before .before .before .before .before .before .before .before .args .dirs .now) (c .before .before .before .before .before .before .before .before .args .j) _ (c .before .before .dir-len .ensures))
+returns-3 : tie.Need-returns-3
+unfolding isDir
+returns-3 c = c .same-run .ensures ∙ ap (λ (x : _). sameBytes x (c .before .before .before .before .before .before .before .before .before .args .p .now)) (dir-part (c .before .before .before .before .before .before .before .before .before .args .dirs .now) (c .before .before .before .before .before .before .before .before .before .args .j) _ (c .before .before .before .dir-len .ensures))
 
 pub dir-is-spec : {M : Type 1} → statement M
 dir-is-spec =
@@ -52,11 +58,12 @@ dir-is-spec =
     shared-slice-read-if1
     returns
     dir-len-requires
+    returns-2
     mul-at
     add-at
-    add-same-path
-    sub-same-path
-    part-same-path-start
-    part-same-path-end
-    same-path-requires
-    returns-2)
+    add-same-run
+    sub-same-run
+    part-same-run-start
+    part-same-run-end
+    same-run-requires
+    returns-3)

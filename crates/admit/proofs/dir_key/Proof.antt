@@ -1,7 +1,7 @@
 -- Carried by `dir-part`: the part lent is what the row spells.
 use mathlib.Core.Path.{ap, _∙_}
-use Rattle.path.specs.Path.{keyOf}
 use Rattle.dirs.specs.RowLaws.{dir-part, dir-short}
+use Rattle.admit.specs.Keys.{textKey}
 use native.Mathlib.Omega.{arith}
 use borrow.Author.Needs.{needs}
 use Rattle.admit.proofs.dir_key.Statement.{statement}
@@ -16,23 +16,23 @@ mul-at c = search needs
 add-at : tie.Need-add-at
 add-at c = search needs
 
-add-key : tie.Need-add-key
-add-key c = omega (arith, dir-short (c .before .before .args .dirs .now) (c .before .before .args .j))
+add-text-key : tie.Need-add-text-key
+add-text-key c = omega (arith, dir-short (c .before .before .args .dirs .now) (c .before .before .args .j))
 
-sub-key : tie.Need-sub-key
-sub-key c = search needs
+sub-text-key : tie.Need-sub-text-key
+sub-text-key c = search needs
 
-part-key-start : tie.Need-part-key-start
-part-key-start c = search needs
+part-text-key-start : tie.Need-part-text-key-start
+part-text-key-start c = search needs
 
-part-key-end : tie.Need-part-key-end
-part-key-end c = omega (arith, dir-short (c .before .before .args .dirs .now) (c .before .before .args .j))
+part-text-key-end : tie.Need-part-text-key-end
+part-text-key-end c = omega (arith, dir-short (c .before .before .args .dirs .now) (c .before .before .args .j))
 
-key-requires : tie.Need-key-requires
-key-requires c κs = search needs
+text-key-requires : tie.Need-text-key-requires
+text-key-requires c κs = search needs
 
 returns : tie.Need-returns
-returns c = c .key .ensures ∙ ap keyOf (dir-part (c .before .before .before .before .args .dirs .now) (c .before .before .before .before .args .j) _ (c .before .before .dir-len .ensures))
+returns c = c .text-key .ensures ∙ ap textKey (dir-part (c .before .before .before .before .args .dirs .now) (c .before .before .before .before .args .j) _ (c .before .before .dir-len .ensures))
 
 pub dir-key-spec : {M : Type 1} → statement M
 dir-key-spec =
@@ -41,9 +41,9 @@ dir-key-spec =
     dir-len-requires
     mul-at
     add-at
-    add-key
-    sub-key
-    part-key-start
-    part-key-end
-    key-requires
+    add-text-key
+    sub-text-key
+    part-text-key-start
+    part-text-key-end
+    text-key-requires
     returns)

@@ -2,15 +2,15 @@
 use mathlib.Core.Path.{refl, _≡_}
 use Prim.Native.Nat.{ℕ, _≤_, _<_, _-_}
 use lib.ListN.{length, getD, length-set}
-use Rattle.path.specs.Path.{keyOf}
 use Rattle.dirs.specs.Rows.{dirAt}
+use Rattle.admit.specs.Keys.{textKey}
 use Rattle.admit.proofs.Turns.{keys-more}
 use native.Mathlib.Omega.{arith}
 use Rattle.admit.proofs.dir_keys.Statement.{statement}
 use Rattle.admit.proofs.dir_keys.Tie as tie
 
 abbrev Inv-loop : tie.InvT-loop
-Inv-loop dirs m keys₀ j₀ keys j = (j ≤ m) × (length keys ≡ length keys₀) × ((i : ℕ) → i < j → getD keys i 0 ≡ keyOf (dirAt dirs i))
+Inv-loop dirs m keys₀ j₀ keys j = (j ≤ m) × (length keys ≡ length keys₀) × ((i : ℕ) → i < j → getD keys i 0 ≡ textKey (dirAt dirs i))
 
 abbrev μ-loop : tie.MeasureT-loop
 μ-loop dirs m keys₀ j₀ keys j = m - j
@@ -34,7 +34,7 @@ loop-less : tie.Need-loop-less Inv-loop μ-loop
 loop-less c = omega arith
 
 loop-again : tie.Need-loop-again Inv-loop μ-loop
-loop-again c = (omega arith, simp length-set (c .before .before .loop .inv .1), keys-more (dirAt (c .before .before .before .before .before .args .dirs .now)) (c .before .before .loop .keys) (c .before .before .loop .j) _ (c .before .before .loop .inv .2) (omega arith) (c .dir-key .ensures))
+loop-again c = (omega arith, simp length-set (c .before .before .loop .inv .1), keys-more textKey (dirAt (c .before .before .before .before .before .args .dirs .now)) (c .before .before .loop .keys) (c .before .before .loop .j) _ (c .before .before .loop .inv .2) (omega arith) (c .dir-key .ensures))
 
 same-length : tie.Need-same-length Inv-loop μ-loop
 same-length c = c .before .loop .inv .1

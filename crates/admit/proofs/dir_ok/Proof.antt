@@ -1,7 +1,7 @@
--- Carried by `dir-no`, `dir-seen` and `dir-up`, a way out each.
-use borrow.Author.Tests.{not-true, not-false}
+-- Carried by `seen-no` and `seen-none`.
+use mathlib.Core.Path.{sym, _∙_}
 use Rattle.dirs.specs.RowLaws.{dir-part, dir-short}
-use Rattle.admit.proofs.Laws.{dir-no, dir-seen, dir-up}
+use Rattle.admit.proofs.Upright.{seen-no, seen-none}
 use native.Mathlib.Omega.{arith}
 use borrow.Author.Needs.{needs}
 use Rattle.admit.proofs.dir_ok.Statement.{statement}
@@ -16,26 +16,8 @@ mul-at c = search needs
 add-at : tie.Need-add-at
 add-at c = search needs
 
-add-is-normal : tie.Need-add-is-normal
-add-is-normal c = omega (arith, dir-short (c .before .before .before .args .dirs .now) (c .before .before .before .args .j))
-
-sub-is-normal : tie.Need-sub-is-normal
-sub-is-normal c = search needs
-
-part-is-normal-start : tie.Need-part-is-normal-start
-part-is-normal-start c = search needs
-
-part-is-normal-end : tie.Need-part-is-normal-end
-part-is-normal-end c = omega (arith, dir-short (c .before .before .before .args .dirs .now) (c .before .before .before .args .j))
-
-is-normal-requires : tie.Need-is-normal-requires
-is-normal-requires c κs = search needs
-
-returns : tie.Need-returns
-returns c = dir-no _ _ _ _ (dir-part (c .before .before .before .before .before .before .args .dirs .now) (c .before .before .before .before .before .before .args .j) _ (c .before .before .before .dir-len .ensures)) _ (c .before .is-normal .ensures) (not-true _ (c .if1 .taken))
-
 add-seen-before : tie.Need-add-seen-before
-add-seen-before c = omega (arith, dir-short (c .before .before .before .before .before .before .args .dirs .now) (c .before .before .before .before .before .before .args .j))
+add-seen-before c = omega (arith, dir-short (c .before .before .before .args .dirs .now) (c .before .before .before .args .j))
 
 sub-seen-before : tie.Need-sub-seen-before
 sub-seen-before c = search needs
@@ -44,16 +26,16 @@ part-seen-before-start : tie.Need-part-seen-before-start
 part-seen-before-start c = search needs
 
 part-seen-before-end : tie.Need-part-seen-before-end
-part-seen-before-end c = omega (arith, dir-short (c .before .before .before .before .before .before .args .dirs .now) (c .before .before .before .before .before .before .args .j))
+part-seen-before-end c = omega (arith, dir-short (c .before .before .before .args .dirs .now) (c .before .before .before .args .j))
 
 seen-before-requires : tie.Need-seen-before-requires
-seen-before-requires c κs = (c .before .before .before .before .before .before .before .pre .0, c .before .before .before .before .before .before .before .pre .1, c .before .before .before .before .before .before .before .pre .2, dir-part (c .before .before .before .before .before .before .before .args .dirs .now) (c .before .before .before .before .before .before .before .args .j) _ (c .before .before .before .before .dir-len .ensures))
+seen-before-requires c κs = (c .before .before .before .before .pre .0, c .before .before .before .before .pre .1, c .before .before .before .before .pre .2, dir-part (c .before .before .before .before .args .dirs .now) (c .before .before .before .before .args .j) _ (c .before .dir-len .ensures))
 
-returns-2 : tie.Need-returns-2
-returns-2 c = dir-seen _ _ _ _ (dir-part (c .before .before .before .before .before .before .before .before .before .args .dirs .now) (c .before .before .before .before .before .before .before .before .before .args .j) _ (c .before .before .before .before .before .before .dir-len .ensures)) _ _ (c .before .before .before .before .is-normal .ensures) (not-false _ (c .before .before .before .if1 .left)) (c .before .seen-before .ensures) (c .if2 .taken)
+returns : tie.Need-returns
+returns c = seen-no _ _ _ (c .before .before .before .before .before .before .pre .2) _ (dir-part (c .before .before .before .before .before .before .args .dirs .now) (c .before .before .before .before .before .before .args .j) _ (c .before .before .before .dir-len .ensures)) (sym (c .before .seen-before .ensures) ∙ c .if1 .taken)
 
 add-up-held : tie.Need-add-up-held
-add-up-held c = omega (arith, dir-short (c .before .before .before .before .before .before .before .before .before .args .dirs .now) (c .before .before .before .before .before .before .before .before .before .args .j))
+add-up-held c = omega (arith, dir-short (c .before .before .before .before .before .before .args .dirs .now) (c .before .before .before .before .before .before .args .j))
 
 sub-up-held : tie.Need-sub-up-held
 sub-up-held c = search needs
@@ -62,13 +44,13 @@ part-up-held-start : tie.Need-part-up-held-start
 part-up-held-start c = search needs
 
 part-up-held-end : tie.Need-part-up-held-end
-part-up-held-end c = omega (arith, dir-short (c .before .before .before .before .before .before .before .before .before .args .dirs .now) (c .before .before .before .before .before .before .before .before .before .args .j))
+part-up-held-end c = omega (arith, dir-short (c .before .before .before .before .before .before .args .dirs .now) (c .before .before .before .before .before .before .args .j))
 
 up-held-requires : tie.Need-up-held-requires
-up-held-requires c κs = search needs
+up-held-requires c κs = (c .before .before .before .before .before .before .before .pre .0, c .before .before .before .before .before .before .before .pre .1, c .before .before .before .before .before .before .before .pre .2, dir-part (c .before .before .before .before .before .before .before .args .dirs .now) (c .before .before .before .before .before .before .before .args .j) _ (c .before .before .before .before .dir-len .ensures))
 
-returns-3 : tie.Need-returns-3
-returns-3 c = dir-up _ _ _ _ (dir-part (c .before .before .before .before .before .before .before .before .before .before .before .args .dirs .now) (c .before .before .before .before .before .before .before .before .before .before .before .args .j) _ (c .before .before .before .before .before .before .before .before .dir-len .ensures)) _ _ _ (c .before .before .before .before .before .before .is-normal .ensures) (not-false _ (c .before .before .before .before .before .if1 .left)) (c .before .before .before .seen-before .ensures) (c .before .before .if2 .left) (c .up-held .ensures)
+returns-2 : tie.Need-returns-2
+returns-2 c = seen-none _ _ _ (c .before .before .before .before .before .before .before .before .pre .2) _ (dir-part (c .before .before .before .before .before .before .before .before .args .dirs .now) (c .before .before .before .before .before .before .before .before .args .j) _ (c .before .before .before .before .before .dir-len .ensures)) (c .up-held .result) (sym (c .before .before .before .seen-before .ensures) ∙ c .before .before .if1 .left) (c .up-held .ensures)
 
 pub dir-ok-spec : {M : Type 1} → statement M
 dir-ok-spec =
@@ -77,21 +59,15 @@ dir-ok-spec =
     dir-len-requires
     mul-at
     add-at
-    add-is-normal
-    sub-is-normal
-    part-is-normal-start
-    part-is-normal-end
-    is-normal-requires
-    returns
     add-seen-before
     sub-seen-before
     part-seen-before-start
     part-seen-before-end
     seen-before-requires
-    returns-2
+    returns
     add-up-held
     sub-up-held
     part-up-held-start
     part-up-held-end
     up-held-requires
-    returns-3)
+    returns-2)

@@ -1,7 +1,7 @@
--- Carried by `none-before`: where no key before it is the same, no path is.
-use mathlib.Core.Path.{sym, _∙_}
+-- Carried by `none-before`: where no key before it is the same, no directory is.
+use mathlib.Core.Path.{sym, ap, _∙_}
+use Rattle.admit.specs.Keys.{textKey}
 use borrow.Author.Tests.{not-true}
-use Rattle.dirs.specs.Rows.{dirsOf}
 use Rattle.admit.proofs.Laws.{none-before, keys-fewer}
 use native.Mathlib.Omega.{arith}
 use borrow.Author.Needs.{needs}
@@ -18,11 +18,16 @@ has-key-requires : tie.Need-has-key-requires
 has-key-requires c κs = search needs
 
 returns : tie.Need-returns
-unfolding dirsOf
 returns c = none-before _ _ _ _ _ (c .before .before .before .before .before .before .pre .1) (c .before .before .before .before .before .before .pre .2) (c .before .before .before .before .before .before .pre .3) (sym (c .before .has-key .ensures) ∙ not-true _ (c .if1 .taken))
 
+mul-has-dir : tie.Need-mul-has-dir
+mul-has-dir c = search needs
+
+shared-slice-read-has-dir : tie.Need-shared-slice-read-has-dir
+shared-slice-read-has-dir c = search needs
+
 has-dir-requires : tie.Need-has-dir-requires
-has-dir-requires c κs = (omega arith, keys-fewer _ _ _ _ (c .before .before .before .before .before .before .pre .1) (omega arith))
+has-dir-requires c κs = (omega arith, keys-fewer _ _ _ _ _ (c .before .before .before .before .before .before .before .pre .1) (omega arith), c .before .before .before .before .before .before .before .pre .1 .key _ (c .before .before .before .before .before .before .before .pre .2) ∙ ap textKey (sym (c .before .before .before .before .before .before .before .pre .3)))
 
 returns-2 : tie.Need-returns-2
 returns-2 c = search needs
@@ -35,5 +40,7 @@ seen-before-spec =
     shared-slice-read-has-key
     has-key-requires
     returns
+    mul-has-dir
+    shared-slice-read-has-dir
     has-dir-requires
     returns-2)
