@@ -35,7 +35,7 @@ use Rattle.promises.proofs.Bridge.{plain, map-length, shown, shownW, po
 
 -- ---- the reads
 
-untouched-now : (plan : List ℕ) (k : ℕ) (p : Place) → Untouched plan (suc k) p → (turn plan p ≢ 1) × (turn plan p ≢ 2)
+pub untouched-now : (plan : List ℕ) (k : ℕ) (p : Place) → Untouched plan (suc k) p → (turn plan p ≢ 1) × (turn plan p ≢ 2)
 unfolding Untouched turn
 untouched-now plan k p u = rw (add-zero (p .at)) at (u 0 (omega arith))
 

@@ -27,7 +27,7 @@ module _ (g : Geometry) (c : Came) (F : Fit g (c .world)) (z : c .out ≡ 0) (x 
   pool-is : IsPool (x .lent .bufs)
   pool-is = world-is g (c .world) (x .lent) F lent-is .1 .pool
 
-mounted-done : (c : Came) → c .out ≡ 0 → mounted c ≡ done (c .out) (flatW (c .world))
+pub mounted-done : (c : Came) → c .out ≡ 0 → mounted c ≡ done (c .out) (flatW (c .world))
 unfolding mounted
 mounted-done c z = rw (eq-eqb (c .out) 0 z)
 

@@ -1,6 +1,6 @@
--- The edges of specs/Edges.antt. The rule (`mount-rule`) carries P2 and what is unbound; that a slot which claims nothing is queued is `scan-spare`; P6 and P7
--- are a mount of one slot, worked out.
-use Prim.Native.Nat.{ℕ, zero, suc, _+_, _≤_, _<_, _^_, max, min}
+-- The rows of table P about the headers that a mount finds: P2, P3 and P8. The rule (`mount-rule`) carries P2 and what is unbound; that a slot which claims
+-- nothing is queued is `scan-spare`.
+use Prim.Native.Nat.{ℕ, zero, suc, _+_, _≤_, _<_, min}
 use native.Mathlib.Omega.{arith}
 use native.Mathlib.Decide.{ℕ-discrete}
 use mathlib.Core.Path.{_≡_, refl, sym, ap, subst, _∙_}
@@ -9,7 +9,7 @@ use mathlib.Core.Bool.{Bool, true, false, cond, _&&_, false≢true}
 use mathlib.Core.List.{List, [], _∷_, _++_, List·Memᴰ·head, Memᴰ·append-left, Memᴰ·append-right, Memᴰ·cast}
 use lib.Dec.{ltb, leb}
 use lib.ListN.{length, take, length-take}
-use borrow.Author.Tests.{lt-ltb, le-ltb}
+use borrow.Author.Tests.{lt-ltb}
 use Rattle.lists.specs.Runs.{tab}
 use Rattle.lists.specs.Distinct.{In}
 use Rattle.header.specs.declared.Header.{Header}
@@ -17,16 +17,14 @@ use Rattle.header.specs.declared.Decoded.{Decoded}
 use Rattle.header.specs.declared.Decoded.the-variants.{Found}
 use Rattle.header.specs.Block.{decoded}
 use Rattle.header.specs.Block as Block
-use Rattle.path.specs.Path.{samePath, ancestors}
+use Rattle.path.specs.Path.{samePath}
 use Rattle.path.specs.Theorems.{same-path-sym, same-path-trans}
 use Rattle.device.specs.declared.Geometry.{Geometry}
-use Rattle.device.specs.Device.{Dev, physOf}
+use Rattle.device.specs.Device.{Dev, Shape, physOf}
 use Rattle.device.specs.Slots.{partOf}
 use Rattle.device.specs.Memory.{memory}
 use Rattle.rows.specs.Rows.{Row, unbound, bound, at, isBound, pathOf, genOf, lenOf, find}
 use Rattle.dirs.specs.Dirs.{Dirs}
-use Rattle.dirs.specs.Joined.{absent-few}
-use Rattle.dirs.specs.Laws.{length-registered}
 use Rattle.table.specs.State.{State}
 use Rattle.steps.specs.World.{World, world}
 use Rattle.steps.specs.Steps.{fineM, freeM, releaseM}
@@ -34,13 +32,15 @@ use Rattle.steps.specs.Laws.{release-is}
 use Rattle.survey.specs.Heads.{Head, absent, idle, claim, saidOf, headOf}
 use Rattle.survey.specs.Survey.{Survey}
 use Rattle.survey.specs.Survey as S
-use Rattle.mount.specs.Mount.{Came, came, begin, installed, drain, moved, emptyState, mountM}
-use Rattle.promises.specs.Demand3.{headerAt, asks, Best, Holds, Rule, reading, surveyed, standing}
-use Rattle.promises.specs.Edges.{Mount, head, block, valid, rows, Done, Free, P2, P3, front, P8, one, Room, P6, P7, MountEdges}
+use Rattle.mount.specs.Mount.{Came, begin, installed, drain, emptyState, mountM}
+use Rattle.pool.specs.Public.{slotRows, dirRows}
+use Rattle.promises.specs.Demand3.{headerAt, asks, Best, Holds, Rule, surveyed, standing}
+use Rattle.promises.specs.Edges.{Mount, head, block, Claimless, after, rows, Done, Free, P2, P3, front, P8}
 use Rattle.promises.proofs.Free.{short-said}
 use Rattle.promises.proofs.Bridge.{step-length, step-dirs}
-use Rattle.promises.proofs.Adopt.{not-many, surveyed-is, settled}
+use Rattle.promises.proofs.Adopt.{surveyed-is}
 use Rattle.promises.proofs.Mount.{empty-dirs, mount-room, mount-is, mount-rule}
+use Rattle.promises.proofs.Public.{mount-shape, mount-accepted, mount-state}
 
 -- ---- what a header says
 
@@ -50,12 +50,12 @@ claim-alike h = (cc, cc)
 idle-no-claim : {e f l : ℕ} {p : List ℕ} → idle e ≢ claim p f l
 idle-no-claim h = let z : _≡_ {A = ℕ} 0 1 = cc in omega arith
 
-absent-no-claim : {f l : ℕ} {p : List ℕ} → absent ≢ claim p f l
+pub absent-no-claim : {f l : ℕ} {p : List ℕ} → absent ≢ claim p f l
 absent-no-claim h = let z : _≡_ {A = ℕ} 0 1 = cc in omega arith
 
 -- it claims nothing
-abbrev Claimless : Head → Type 0
-Claimless h = (p : List ℕ) (e l : ℕ) → h ≢ claim p e l
+abbrev NoClaim : Head → Type 0
+NoClaim h = (p : List ℕ) (e l : ℕ) → h ≢ claim p e l
 
 module _ (b : List ℕ) (h : Header) (e : decoded b (length b) ≡ Found h) where
   found-claim : h .«in_use» ≡ true → 0 < h .«path_len» → headOf b ≡ claim (Block.pathOf b) (h .generation) (h .len)
@@ -66,7 +66,7 @@ module _ (b : List ℕ) (h : Header) (e : decoded b (length b) ≡ Found h) wher
   unfolding headOf
   found-idle u z = ap (saidOf b) e ∙ rw (u, z)
 
-  found-asks : asks (headOf b) ≡ suc (h .generation)
+  pub found-asks : asks (headOf b) ≡ suc (h .generation)
   unfolding headOf
   found-asks = ap (λ (x : Decoded). asks (saidOf b x)) e ∙ go (h .«in_use» && ltb 0 (h .«path_len»))
     where
@@ -76,7 +76,7 @@ module _ (b : List ℕ) (h : Header) (e : decoded b (length b) ≡ Found h) wher
 
 -- ---- "Non-claims join the queue by index"
 
-step-spare : (h : Head) (v : Survey) → Claimless h → In (length (v .rows)) (S.step h v .free)
+step-spare : (h : Head) (v : Survey) → NoClaim h → In (length (v .rows)) (S.step h v .free)
 unfolding S.step
 step-spare absent v n = Memᴰ·append-right (v .free) (List·Memᴰ·head refl)
 step-spare (idle e) v n = Memᴰ·append-right (v .free) (List·Memᴰ·head refl)
@@ -101,7 +101,7 @@ unfolding S.scan
 scan-free [] v i m = m
 scan-free (h ∷ hs) v i m = scan-free hs (S.step h v) i (step-free h v i m)
 
-module _ (g : Geometry) (plan : List ℕ) (d : Dev) (f : ℕ → Head) (i : ℕ) (n : Claimless (f i)) where
+module _ (g : Geometry) (plan : List ℕ) (d : Dev) (f : ℕ → Head) (i : ℕ) (n : NoClaim (f i)) where
   scan-spare : (k : ℕ) (v : Survey) → Dirs (v .dirs) → length (v .rows) ≤ i → i < length (v .rows) + k → In i (S.scan (tab f (length (v .rows)) k) v .free)
   unfolding S.scan tab
   scan-spare zero v D a b = absurd (omega arith)
@@ -116,7 +116,7 @@ module _ (g : Geometry) (plan : List ℕ) (d : Dev) (f : ℕ → Head) (i : ℕ)
       go : Dec (i ≡ length (v .rows)) → ((x : Survey) → Dirs (x .dirs) → length (x .rows) ≤ i → i < length (x .rows) + k → In i (S.scan (tab f (length (x .rows)) k) x .free))
           → In i (S.scan (tab f (suc (length (v .rows))) k) u .free)
       go (yes e) ih =
-          let c : Claimless (f (length (v .rows))) = subst (λ (j : ℕ). Claimless (f j)) e n in
+          let c : NoClaim (f (length (v .rows))) = subst (λ (j : ℕ). NoClaim (f j)) e n in
           scan-free (tab f (suc (length (v .rows))) k) u i (Memᴰ·cast e (step-spare (f (length (v .rows))) v c))
       go (no ne) ih =
           subst (λ (j : ℕ). In i (S.scan (tab f j k) u .free)) len
@@ -138,15 +138,40 @@ module _ (g : Geometry) (plan : List ℕ) (i : ℕ) where
 
 -- ---- P2, P3, P8
 
+module _ (m : Mount) where
+  abbrev pub g : Geometry
+  g = m .geometry
+
+  -- the pool before the mount, and the inner call
+  abbrev pub w : World
+  w = world (m .dev) (emptyState (slotRows (m .nums)) (dirRows (m .dirs)))
+
+  abbrev pub inner : Came
+  inner = mountM (m .plan) g (slotRows (m .nums)) (dirRows (m .dirs)) (m .k) (m .dev)
+
+  pub no-dirs : Dirs (w .state .dirs)
+  no-dirs = empty-dirs (slotRows (m .nums)) (dirRows (m .dirs))
+
 module _ (m : Mount) (D : Done m) where
   abbrev H : ℕ → Head
   H = head m
 
-  rule : Rule H (m .k) (rows m)
-  rule = mount-rule (m .geometry) (m .plan) (m .cap) (m .dirCap) (m .k) (m .dev) (D .shape) (D .reads) (D .accepted)
+  shape : Shape (g m) (m .dev .bytes) (m .dev .phys)
+  shape = mount-shape (m .plan) (g m) (m .k) (m .dev) (m .nums) (m .names) (m .dirs) (D .accepted)
+
+  came-zero : inner m .out ≡ 0
+  came-zero = mount-accepted (m .plan) (g m) (m .k) (m .dev) (m .nums) (m .names) (m .dirs) (D .accepted)
+
+  pub state-is : after m ≡ inner m .world .state
+  state-is = mount-state (m .plan) (g m) (m .k) (m .dev) (m .nums) (m .names) (m .dirs) (D .accepted)
+
+  pub rule : Rule H (m .k) (rows m)
+  rule =
+      subst (λ (s : State). Rule H (m .k) (s .rows)) (sym state-is)
+      (mount-rule (g m) (m .plan) (slotRows (m .nums)) (dirRows (m .dirs)) (m .k) (m .dev) shape (D .reads) came-zero)
 
   slots-there : m .k ≤ length (m .dev .phys)
-  slots-there = mount-room (m .geometry) (m .plan) (m .cap) (m .dirCap) (m .k) (m .dev) (D .shape) (D .reads) (D .accepted)
+  slots-there = mount-room (g m) (m .plan) (slotRows (m .nums)) (dirRows (m .dirs)) (m .k) (m .dev) shape (D .reads) came-zero
 
   -- a bound slot is the best claim of its path
   bound-best : (i : ℕ) → isBound (at (rows m) i) ≡ true → Best H (m .k) i (pathOf (at (rows m) i)) (genOf (at (rows m) i)) (lenOf (at (rows m) i))
@@ -190,7 +215,7 @@ module _ (m : Mount) (D : Done m) where
             let s : samePath (pathOf (at (rows m) j)) p ≡ true = subst (λ (r : List ℕ). samePath r p ≡ true) (c .0) (same-path-sym p q same) in
             worse (genOf (at (rows m) j)) (c .1) (B .over i p e l a (λ z. ne (sym z)) hi s) better
 
-  p2 : P2 m
+  pub p2 : P2 m
   unfolding P2
   p2 i j p q e f l n lt b hi hj same no-more = (
     λ le.
@@ -220,29 +245,30 @@ module _ (m : Mount) (D : Done m) where
           go false z = refl
 
   -- a slot that claims nothing is free
-  claimless-free : (i : ℕ) → i < m .k → Claimless (H i) → Free m i
+  pub claimless-free : (i : ℕ) → i < m .k → Claimless m i → Free m i
   unfolding standing installed surveyed emptyState
   claimless-free i l c =
-      let g = m .geometry in
-      let w = world (m .dev) (emptyState (m .cap) (m .dirCap)) in
-      let z = mount-is g (m .plan) (m .cap) (m .dirCap) (m .k) (m .dev) (D .shape) (D .reads) (D .accepted) in
+      let z = mount-is (g m) (m .plan) (slotRows (m .nums)) (dirRows (m .dirs)) (m .k) (m .dev) shape (D .reads) came-zero in
+      let v = surveyed (m .plan) (g m) (m .k) (w m) in
       let room : 0 + m .k ≤ length (m .dev .phys) = omega (arith, slots-there) in
-      let q : In i (surveyed (m .plan) g (m .k) w .free) =
-      subst (λ (v : Survey). In i (v .free)) (sym (surveyed-is g (m .plan) (m .k) w (D .shape) (empty-dirs (m .cap) (m .dirCap)) (D .reads) room))
-      (scan-spare g (m .plan) (m .dev) H i c (m .k) (begin (w .state)) (empty-dirs (m .cap) (m .dirCap)) (omega arith) (omega arith)) in
+      let q : In i (v .free) =
+      subst (λ (x : Survey). In i (x .free)) (sym (surveyed-is (g m) (m .plan) (m .k) (w m) shape (no-dirs m) (D .reads) room))
+      (scan-spare (g m) (m .plan) (m .dev) H i c (m .k) (begin (w m .state)) (no-dirs m) (omega arith) (omega arith)) in
       record {
         unbound = not-bound i (λ b. c _ _ _ (bound-best i b .claims));
-        queued = subst (λ (x : Came). In i (x .world .state .queue)) (sym z) (drain-queue g (m .plan) i (surveyed (m .plan) g (m .k) w .losers) (standing (m .plan) g (m .k) w) q);
+        queued =
+            subst (λ (s : State). In i (s .queue)) (sym (state-is ∙ ap (λ (x : Came). x .world .state) z))
+            (drain-queue (g m) (m .plan) i (v .losers) (standing (m .plan) (g m) (m .k) (w m)) q);
       }
 
-  p3 : P3 m
+  pub p3 : P3 m
   unfolding P3 headerAt
   p3 i h l v u = (
     λ z. claimless-free i l (λ p e n k. idle-no-claim (sym (found-idle (block m i) h v u z) ∙ k)),
     λ s. found-claim (block m i) h v u s,
   )
 
-  p8 : P8 m
+  pub p8 : P8 m
   unfolding P8 headerAt
   p8 i h l v u s = (λ z. claimless-free i l (λ p e n k. absent-no-claim (sym (short z) ∙ k)), λ z. long z)
     where
@@ -257,96 +283,5 @@ module _ (m : Mount) (D : Done m) where
           let k : min 512 (physOf i (m .dev)) ≡ 512 = omega arith in
           let same : block m i ≡ front m i = ap (λ (x : ℕ). take x part) k in
           let n : length (front m i) ≡ 512 =
-          ap length (sym same) ∙ memory (m .plan) (m .geometry) .block-length (m .dev) i (D .shape) (omega (arith, slots-there)) ∙ k in
+          ap length (sym same) ∙ memory (m .plan) (m .geometry) .block-length (m .dev) i shape (omega (arith, slots-there)) ∙ k in
           ap headOf same ∙ found-claim (front m i) h (ap (decoded (front m i)) n ∙ v) u s
-
--- ---- P6, P7
-
--- a survey of one slot, from no pool
-module _ (cap dirCap : ℕ) where
-  abbrev sole : Head → Survey
-  sole h = S.scan (h ∷ []) (begin (emptyState cap dirCap))
-
-  sole-losers : (h : Head) → sole h .losers ≡ []
-  unfolding S.scan S.step find emptyState
-  sole-losers absent = refl
-  sole-losers (idle e) = refl
-  sole-losers (claim p e l) = refl
-
-  sole-counter : (h : Head) → sole h .counter ≡ max 1 (asks h)
-  unfolding S.scan S.step find emptyState
-  sole-counter absent = refl
-  sole-counter (idle e) = refl
-  sole-counter (claim p e l) = refl
-
-  sole-dirs : (h : Head) → ((p : List ℕ) (e l : ℕ) → h ≡ claim p e l → length (ancestors p) ≤ dirCap) → length (sole h .dirs) ≤ dirCap
-  unfolding S.scan S.step find emptyState
-  sole-dirs absent f = omega arith
-  sole-dirs (idle e) f = omega arith
-  sole-dirs (claim p e l) f = omega (arith, f p e l refl, length-registered [] p, absent-few [] (ancestors p))
-
-module _ (m : Mount) (R : Room m) where
-  abbrev g : Geometry
-  g = m .geometry
-
-  abbrev w : World
-  w = world (m .dev) (emptyState (m .cap) (m .dirCap))
-
-  abbrev v : Survey
-  v = surveyed (m .plan) g 1 w
-
-  abbrev spent : Bool
-  spent = ltb (2 ^ 63) (v .counter + length (v .losers))
-
-  abbrev moves : World
-  moves = moved (reading (m .plan) g 1 w .place) w
-
-  abbrev done : World
-  done = drain (m .plan) g (v .losers) (standing (m .plan) g 1 w)
-
-  v-is : v ≡ sole (m .cap) (m .dirCap) (head m 0)
-  unfolding tab emptyState
-  v-is = surveyed-is g (m .plan) 1 w (R .shape) (empty-dirs (m .cap) (m .dirCap)) (R .reads) (omega (arith, R .slots .1))
-
-  v-losers : v .losers ≡ []
-  v-losers = ap (λ (x : Survey). x .losers) v-is ∙ sole-losers (m .cap) (m .dirCap) (head m 0)
-
-  v-counter : v .counter ≡ max 1 (asks (head m 0))
-  v-counter = ap (λ (x : Survey). x .counter) v-is ∙ sole-counter (m .cap) (m .dirCap) (head m 0)
-
-  v-dirs : ltb (m .dirCap) (length (v .dirs)) ≡ false
-  v-dirs = le-ltb (m .dirCap) (length (v .dirs)) (omega (arith, ap (λ (x : Survey). length (x .dirs)) v-is, sole-dirs (m .cap) (m .dirCap) (head m 0) (R .dirs)))
-
-  one-is : one m ≡ cond spent (came 9 moves) (came 0 done)
-  unfolding mountM emptyState
-  one-is =
-      let room : 0 + 1 ≤ length (m .dev .phys) = omega (arith, R .slots .1) in
-      settled g (m .plan) 1 w (R .shape) (empty-dirs (m .cap) (m .dirCap)) (R .reads) room (not-many g (m .plan) 1 w (R .shape) (empty-dirs (m .cap) (m .dirCap)) (R .reads) (omega (arith, R .slots .0)) room)
-      ∙ rw v-dirs
-
-  -- the counter that a valid header asks for
-  counted : (h : Header) → valid m 0 ≡ Found h → v .counter + length (v .losers) ≡ suc (h .generation)
-  unfolding headerAt
-  counted h e = omega (arith, v-counter, ap length v-losers, found-asks (block m 0) h e)
-
-  p6 : P6 m
-  unfolding P6 drain standing installed
-  p6 h e k =
-      let y : spent ≡ false = le-ltb (2 ^ 63) (v .counter + length (v .losers)) (omega (arith, counted h e)) in
-      let c : one m ≡ came 0 done = one-is ∙ rw y in (
-        ap (λ (x : Came). x .out) c,
-        ap (λ (x : Came). x .world .state .counter) c
-            ∙ ap (λ (ls : List ℕ). drain (m .plan) g ls (standing (m .plan) g 1 w) .state .counter) v-losers
-            ∙ omega (arith, counted h e, ap length v-losers),
-      )
-
-  p7 : P7 m
-  unfolding P7
-  p7 h e k =
-      let y : spent ≡ true = lt-ltb (2 ^ 63) (v .counter + length (v .losers)) (omega (arith, counted h e)) in
-      let c : one m ≡ came 9 moves = one-is ∙ rw y in
-      ap (λ (x : Came). x .out) c
-
-pub mount-edges : MountEdges
-unfolding MountEdges
-mount-edges m = (λ D. (p2 m D, p3 m D, p8 m D), λ R. (p6 m R, p7 m R))

@@ -45,7 +45,7 @@ row-from (bound q f m d) p e l h =
     let c : claimOf q f m ≡ claimOf p e l = row-claim h in
     (refl, ap (λ (x : Claim (List ℕ)). x .path) c, ap (λ (x : Claim (List ℕ)). x .gen) c, ap (λ (x : Claim (List ℕ)). x .len) c)
 
-head-from : (h : Head) (c : Claim (List ℕ)) → said h ≡ M.claim c → h ≡ claim (c .path) (c .gen) (c .len)
+pub head-from : (h : Head) (c : Claim (List ℕ)) → said h ≡ M.claim c → h ≡ claim (c .path) (c .gen) (c .len)
 head-from absent c h = absurd (absent≢claim h)
 head-from (idle e) c h = absurd (idle≢claim h)
 head-from (claim p e l) c h = ap (λ (x : Claim (List ℕ)). claim (x .path) (x .gen) (x .len)) (head-claim h)

@@ -1,11 +1,13 @@
--- 01, "Both sides of each edge", as far as mount goes: P2, P3, P6, P7 and P8, each with its other side. proofs/Edges.antt proves them together.
+-- 01, "Both sides of each edge": table P, row by row in its order, each row under 01's sentence and with its other side, and at the end the table as one
+-- statement. The calls are the public ones, as their contracts give them. proofs/Table.antt proves it: `table-p`.
 use Prim.Native.Nat.{ℕ, _-_, _≤_, _<_, _^_}
 use mathlib.Core.Path.{_≡_}
 use mathlib.Core.Logic.{_≢_}
-use mathlib.Core.Bool.{true, false}
-use mathlib.Core.List.{List}
-use lib.ListN.{length, take}
+use mathlib.Core.Bool.{Bool, true, false}
+use mathlib.Core.List.{List, [], _∷_}
+use lib.ListN.{length, getD, take}
 use Rattle.lists.specs.Distinct.{In}
+use Rattle.text.specs.Text.{isText}
 use Rattle.header.specs.declared.Header.{Header}
 use Rattle.header.specs.declared.Decoded.{Decoded}
 use Rattle.header.specs.declared.Decoded.the-variants.{Found}
@@ -15,19 +17,40 @@ use Rattle.device.specs.declared.Geometry.{Geometry}
 use Rattle.device.specs.Device.{Dev, Shape, physOf}
 use Rattle.device.specs.Slots.{partOf}
 use Rattle.device.specs.Calls.{blockOf}
-use Rattle.rows.specs.Rows.{Row, at, isBound}
-use Rattle.survey.specs.Heads.{Head, claim}
-use Rattle.mount.specs.Mount.{Came, mountM}
-use Rattle.promises.specs.Demand3.{headerAt, Untouched, Holds}
+use Rattle.rows.specs.Rows.{Row, bound, at, isBound, lenOf}
+use Rattle.dirs.specs.Dirs.{registered}
+use Rattle.table.specs.State.{State, view}
+use Rattle.steps.specs.World.{Lent, viewW, Ready}
+use Rattle.survey.specs.Heads.{Head, absent, claim}
+use Rattle.handles.specs.Outcome.{Outcome, outcome, flatO, None}
+use Rattle.handles.specs.Handles.{isLive, filling, readPart}
+use Rattle.files.specs.Files.{isFile, Handle, handle, noHandle}
+use Rattle.pool.specs.Public.{rowsB, slotRows, dirRows, mountP, openWriteP, renameP}
+use Rattle.file.specs.Public.{readAtP}
+use Rattle.promises.specs.Demand3.{headerAt, asks, Untouched, Holds, Registered}
 
--- A device with its plan, k of its slots, slot rows and directory rows for them.
+-- ---- what the calls are given
+
+-- The buffers of a pool on its device, and a plan: a call's number is neither 1 nor 2.
+pub record Setting : Type 0 where
+  pub plan : List ℕ
+  pub geometry : Geometry
+  pub lent : Lent
+  pub ready : Ready geometry lent
+
+-- What the pool holds.
+abbrev pub state : Setting → State
+state c = view (c .lent .bufs)
+
+-- A device and a plan, buffers for slot rows and directory rows, and how many slots are to be mounted.
 pub record Mount : Type 0 where
   pub plan : List ℕ
   pub geometry : Geometry
-  pub cap : ℕ
-  pub dirCap : ℕ
-  pub k : ℕ
   pub dev : Dev
+  pub nums : List ℕ
+  pub names : List ℕ
+  pub dirs : List ℕ
+  pub k : ℕ
 
 module _ (m : Mount) where
   -- What slot i's header says, and the header itself.
@@ -40,35 +63,126 @@ module _ (m : Mount) where
   abbrev pub valid : ℕ → Decoded
   valid i = decoded (block i) (length (block i))
 
-  -- ---- a mount of k slots that is accepted, and whose header reads are not touched
+  -- Slot i claims no path.
+  abbrev pub Claimless : ℕ → Type 0
+  Claimless i = (p : List ℕ) (e l : ℕ) → head i ≢ claim p e l
 
-  abbrev pub mounted : Came
-  mounted = mountM (m .plan) (m .geometry) (m .cap) (m .dirCap) (m .k) (m .dev)
+  -- The mount, the pool that it leaves in the buffers, and its rows.
+  abbrev pub mounted : Outcome None Lent
+  mounted = mountP (m .plan) (m .geometry) (m .k) (m .dev) (m .nums) (m .names) (m .dirs)
+
+  abbrev pub after : State
+  after = view (mounted .left .bufs)
 
   abbrev pub rows : List Row
-  rows = mounted .world .state .rows
+  rows = after .rows
 
+  -- It is accepted, and its header reads are not touched.
   pub record Done : Type 0 where
-    pub shape : Shape (m .geometry) (m .dev .bytes) (m .dev .phys)
     pub reads : Untouched (m .plan) (m .k) (m .dev .place)
     pub accepted : mounted .out ≡ 0
 
   -- Slot i is free: unbound, and in the queue.
   pub record Free (i : ℕ) : Type 0 where
     pub unbound : isBound (at rows i) ≡ false
-    pub queued : In i (mounted .world .state .queue)
+    pub queued : In i (after .queue)
 
+-- ---- P1
+
+-- A new file of this path: no file has it, and there are rows for its missing ancestors (a path of 480 bytes may have 240).
+pub record NewFile (path : List ℕ) (s : State) : Type 0 where
+  pub text : isText path ≡ true
+  pub new : isFile path s ≡ false
+  pub dirs : length (registered (s .dirs) path) ≤ s .dirCap
+
+-- What else an open needs: a free slot, a generation that is left, and a truncate that the plan leaves alone.
+pub record Able (c : Setting) : Type 0 where
+  pub free : 0 < length (state c .queue)
+  pub left : state c .counter < 2 ^ 63
+  pub calm : Untouched (c .plan) 1 (c .lent .dev .place)
+
+module _ (c : Setting) (path : List ℕ) (keep : Bool) where
+  abbrev pub opened : Outcome Handle Lent
+  opened = openWriteP (c .plan) (c .geometry) path keep (c .lent)
+
+  -- It opens: 0, with a handle of the first free slot under the next generation, and this slot is the file's.
+  abbrev pub slot : ℕ
+  slot = getD (state c .queue) 0 0
+
+  pub record Opens : Type 0 where
+    pub answer : opened .out ≡ 0
+    pub results : opened .results ≡ handle slot (state c .counter) 0
+    pub file : at (view (opened .left .bufs) .rows) slot ≡ bound path (state c .counter) 0 true
+
+-- "P1 480-byte path opens, 481 gets 4": 4 whatever else is so of a path that is text.
+unfoldable pub P1 : Setting → Type 0
+P1 c = (path : List ℕ) (keep : Bool)
+    → (length path ≤ 480 → NewFile path (state c) → Able c → Opens c path keep)
+    × (480 < length path → isText path ≡ true → opened c path keep ≡ outcome 4 noHandle (c .lent))
+
+-- ---- P2, P3
+
+module _ (m : Mount) where
   -- "P2 equal generations keep the lower slot." Of two slots that alone claim a path the lower holds it where its generation is equal or higher, and the
   -- higher slot holds it where its generation is higher.
   unfoldable pub P2 : Type 0
-  P2 = (i j : ℕ) (p q : List ℕ) (e f l n : ℕ) → i < j → j < m .k → head i ≡ claim p e l → head j ≡ claim q f n → samePath p q ≡ true
-      → ((x : ℕ) (r : List ℕ) (u v : ℕ) → x < m .k → x ≢ i → x ≢ j → head x ≡ claim r u v → samePath p r ≡ false)
-      → (f ≤ e → Holds rows i p e l × (isBound (at rows j) ≡ false)) × (e < f → Holds rows j q f n × (isBound (at rows i) ≡ false))
+  P2 = (i j : ℕ) (p q : List ℕ) (e f l n : ℕ) → i < j → j < m .k → head m i ≡ claim p e l → head m j ≡ claim q f n → samePath p q ≡ true
+      → ((x : ℕ) (r : List ℕ) (u v : ℕ) → x < m .k → x ≢ i → x ≢ j → head m x ≡ claim r u v → samePath p r ≡ false)
+      → (f ≤ e → Holds (rows m) i p e l × (isBound (at (rows m) j) ≡ false)) × (e < f → Holds (rows m) j q f n × (isBound (at (rows m) i) ≡ false))
 
   -- "P3 in-use header with empty path is free"; with another path it is a claim.
   unfoldable pub P3 : Type 0
-  P3 = (i : ℕ) (h : Header) → i < m .k → valid i ≡ Found h → h .«in_use» ≡ true
-      → (h .«path_len» ≡ 0 → Free i) × (0 < h .«path_len» → head i ≡ claim (pathOf (block i)) (h .generation) (h .len))
+  P3 = (i : ℕ) (h : Header) → i < m .k → valid m i ≡ Found h → h .«in_use» ≡ true
+      → (h .«path_len» ≡ 0 → Free m i) × (0 < h .«path_len» → head m i ≡ claim (pathOf (block m i)) (h .generation) (h .len))
+
+-- ---- P4, P5
+
+module _ (c : Setting) where
+  -- "P4 read at length gives 0", with a live handle: no byte, no device call, and the buffer stays. Before the length the device is read.
+  unfoldable pub P4 : Type 0
+  P4 = (i generation pos : ℕ) (buf : List ℕ) → isLive i generation (state c .rows) ≡ true
+      → (lenOf (at (state c .rows) i) ≤ pos → readAtP (c .plan) (c .geometry) i generation pos buf (c .lent) ≡ outcome 0 (filling 0 buf) (c .lent))
+      × (pos < lenOf (at (state c .rows) i)
+      → readAtP (c .plan) (c .geometry) i generation pos buf (c .lent) ≡ flatO (readPart (c .plan) (c .geometry) i pos buf (viewW (c .lent))))
+
+  -- A rename that changes nothing, or gives 5 if `from` is absent.
+  abbrev pub Unmoved : List ℕ → List ℕ → Type 0
+  Unmoved from to =
+      (isFile from (state c) ≡ true → renameP (c .plan) (c .geometry) from to (c .lent) ≡ outcome 0 tt (c .lent))
+      × (isFile from (state c) ≡ false → renameP (c .plan) (c .geometry) from to (c .lent) ≡ outcome 5 tt (c .lent))
+
+  -- "P5 `a` renamed to `a/` changes nothing; 5 if absent", and so is any path renamed to an equal one that isn't too long.
+  unfoldable pub P5 : Type 0
+  P5 = Unmoved (97 ∷ []) (97 ∷ 47 ∷ [])
+      × ((from to : List ℕ) → isText from ≡ true → isText to ≡ true → length to ≤ 480 → samePath from to ≡ true → Unmoved from to)
+
+-- ---- P6, P7
+
+module _ (m : Mount) where
+  -- There is room for the mount: 2, 12, 10 and 8 are not given.
+  pub record Room : Type 0 where
+    pub shape : Shape (m .geometry) (m .dev .bytes) (m .dev .phys)
+    pub lent : rowsB (m .nums) (m .names) (m .dirs) ≡ true
+    pub slots : (m .k ≤ slotRows (m .nums)) × (m .k ≤ length (m .dev .phys))
+    pub reads : Untouched (m .plan) (m .k) (m .dev .place)
+    pub dirs : (ds : List (List ℕ)) → Registered (head m) (m .k) ds → length ds ≤ dirRows (m .dirs)
+
+  -- No two slots claim one path: none loses.
+  abbrev pub Apart : Type 0
+  Apart = (i j : ℕ) (p q : List ℕ) (e f l n : ℕ) → i < m .k → j < m .k → i ≢ j → head m i ≡ claim p e l → head m j ≡ claim q f n → samePath p q ≡ false
+
+  -- "P6 generation 2^63 - 1 in a valid header mounts, and a new open then gets 9": none is higher and none loses; and slot j is free for the open.
+  unfoldable pub P6 : Type 0
+  P6 = (i : ℕ) (h : Header) → i < m .k → valid m i ≡ Found h → h .generation ≡ 2 ^ 63 - 1 → ((j : ℕ) → j < m .k → asks (head m j) ≤ 2 ^ 63) → Apart
+      → (mounted m .out ≡ 0)
+      × ((plan path : List ℕ) (keep : Bool) (j : ℕ) → length path ≤ 480 → NewFile path (after m) → j < m .k → Claimless m j
+      → openWriteP plan (m .geometry) path keep (mounted m .left) ≡ outcome 9 noHandle (mounted m .left))
+
+  -- "P7 2^63 gets 9 at mount", and so does every higher generation, whatever the other headers are.
+  unfoldable pub P7 : Type 0
+  P7 = (i : ℕ) (h : Header) → i < m .k → valid m i ≡ Found h → 2 ^ 63 ≤ h .generation → mounted m .out ≡ 9
+
+  -- ---- P8
 
   -- "P8 a header of 511 bytes read is absent": the slot's first 512 bytes are a header that claims a path. With a physical length of 511 it is free, with 512
   -- it is that claim.
@@ -77,26 +191,24 @@ module _ (m : Mount) where
 
   unfoldable pub P8 : Type 0
   P8 = (i : ℕ) (h : Header) → i < m .k → decoded (front i) 512 ≡ Found h → h .«in_use» ≡ true → 0 < h .«path_len»
-      → (physOf i (m .dev) ≡ 511 → Free i) × (physOf i (m .dev) ≡ 512 → head i ≡ claim (pathOf (front i)) (h .generation) (h .len))
+      → (physOf i (m .dev) ≡ 511 → Free m i) × (physOf i (m .dev) ≡ 512 → head m i ≡ claim (pathOf (front i)) (h .generation) (h .len))
 
-  -- ---- a mount of one slot, for which there is room
+-- ---- THE TABLE
 
-  abbrev pub one : Came
-  one = mountM (m .plan) (m .geometry) (m .cap) (m .dirCap) 1 (m .dev)
+-- "Proved together as one table (P)."
+pub record TableP : Type 0 where
+  pub p1 : (c : Setting) → P1 c
+  pub p2 : (m : Mount) → Done m → P2 m
+  pub p3 : (m : Mount) → Done m → P3 m
+  pub p4 : (c : Setting) → P4 c
+  pub p5 : (c : Setting) → P5 c
+  pub p6 : (m : Mount) → Room m → P6 m
+  pub p7 : (m : Mount) → Room m → P7 m
+  pub p8 : (m : Mount) → Done m → P8 m
 
-  pub record Room : Type 0 where
-    pub shape : Shape (m .geometry) (m .dev .bytes) (m .dev .phys)
-    pub reads : Untouched (m .plan) 1 (m .dev .place)
-    pub slots : (1 ≤ m .cap) × (1 ≤ length (m .dev .phys))
-    pub dirs : (p : List ℕ) (e l : ℕ) → head 0 ≡ claim p e l → length (ancestors p) ≤ m .dirCap
-
-  -- "P6 generation 2^63 - 1 in a valid header mounts, and a new open then gets 9": the counter is at its end.
-  unfoldable pub P6 : Type 0
-  P6 = (h : Header) → valid 0 ≡ Found h → h .generation ≡ 2 ^ 63 - 1 → (one .out ≡ 0) × (one .world .state .counter ≡ 2 ^ 63)
-
-  -- "P7 2^63 gets 9 at mount."
-  unfoldable pub P7 : Type 0
-  P7 = (h : Header) → valid 0 ≡ Found h → h .generation ≡ 2 ^ 63 → one .out ≡ 9
-
-unfoldable pub MountEdges : Type 0
-MountEdges = (m : Mount) → (Done m → P2 m × P3 m × P8 m) × (Room m → P6 m × P7 m)
+-- Its premises can be met: on a blank device with room the mount is done, and then P1 opens every path of at most 480 bytes whose ancestors fit.
+unfoldable pub FromBlank : Type 0
+FromBlank = (m : Mount) → Room m → 0 < m .k → ((i : ℕ) → i < m .k → head m i ≡ absent)
+    → (mounted m .out ≡ 0)
+    × ((plan path : List ℕ) (keep : Bool) → isText path ≡ true → length path ≤ 480 → length (ancestors path) ≤ dirRows (m .dirs)
+    → Untouched plan 1 (mounted m .left .dev .place) → openWriteP plan (m .geometry) path keep (mounted m .left) .out ≡ 0)

@@ -1,3 +1,4 @@
 pub mod Demand3
 pub mod Buffers
 pub mod Edges
+pub mod Outcomes

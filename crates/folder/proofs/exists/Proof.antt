@@ -1,0 +1,47 @@
+-- Refused by `no-pool`, `no-text`, else the inner call.
+use Rattle.gate.specs.Answers.{numberOf}
+use Rattle.gate.proofs.Laws.{a-pool, no-pool, some-pool, no-text, some-text}
+use Rattle.folder.specs.Public.{existsP}
+use Rattle.folder.proofs.Laws.{told-exists}
+use Rattle.folder.proofs.exists.Statement.{statement}
+use Rattle.folder.proofs.exists.Tie as tie
+
+returns : tie.Need-returns
+unfolding existsP numberOf
+returns c =
+    let at-pool-ok = c .before in
+    no-pool _ _ _ _ _ (at-pool-ok .pool-ok .ensures) (c .if1 .taken)
+
+returns-2 : tie.Need-returns-2
+unfolding existsP numberOf
+returns-2 c =
+    let at-is-text = c .before in
+    let at-if1 = at-is-text .before in
+    let at-pool-ok = at-if1 .before in
+    some-pool _ _ _ _ _ (at-pool-ok .pool-ok .ensures) (at-if1 .if1 .left) _ (no-text _ _ _ _ _ (at-is-text .is-text .ensures) (c .if2 .taken))
+
+exists-requires : tie.Need-exists-requires
+exists-requires c κs =
+    let at-if1 = c .before .before in
+    let at-pool-ok = at-if1 .before in
+    a-pool _ _ (at-pool-ok .pool-ok .ensures) (at-if1 .if1 .left)
+
+returns-3 : tie.Need-returns-3
+unfolding existsP numberOf
+returns-3 c =
+    let at-if2 = c .before in
+    let at-is-text = at-if2 .before in
+    let at-if1 = at-is-text .before in
+    let at-pool-ok = at-if1 .before in
+    some-pool _ _ _ _ _ (at-pool-ok .pool-ok .ensures) (at-if1 .if1 .left) _ (some-text _ _ _ _ _ (at-is-text .is-text .ensures) (at-if2 .if2 .left) _ (told-exists _ _ _ (c .exists .ensures)))
+
+pub exists-spec : {M : Type 1} → statement M
+exists-spec =
+    tie.close
+    (tie.spec
+    (λ c κs. tt)
+    returns
+    (λ c κs. tt)
+    returns-2
+    exists-requires
+    returns-3)

@@ -1,0 +1,50 @@
+-- Refused by `no-pool`, `no-text`, else the inner call.
+use Rattle.gate.specs.Answers.{numberOf}
+use Rattle.gate.proofs.Laws.{a-pool, no-pool, some-pool, no-text, some-text}
+use Rattle.folder.specs.Public.{readDirP}
+use Rattle.folder.proofs.Laws.{told-listing}
+use Rattle.folder.proofs.read_dir.Statement.{statement}
+use Rattle.folder.proofs.read_dir.Tie as tie
+
+returns : tie.Need-returns
+unfolding readDirP numberOf
+returns c =
+    let at-pool-ok = c .before in
+    no-pool _ _ _ _ _ (at-pool-ok .pool-ok .ensures) (c .if1 .taken)
+
+returns-2 : tie.Need-returns-2
+unfolding readDirP numberOf
+returns-2 c =
+    let at-is-text = c .before in
+    let at-if1 = at-is-text .before in
+    let at-pool-ok = at-if1 .before in
+    some-pool _ _ _ _ _ (at-pool-ok .pool-ok .ensures) (at-if1 .if1 .left) _ (no-text _ _ _ _ _ (at-is-text .is-text .ensures) (c .if2 .taken))
+
+read-dir-requires : tie.Need-read-dir-requires
+read-dir-requires c κs =
+    let at-if1 = c .before .before .before in
+    let at-pool-ok = at-if1 .before in
+    a-pool _ _ (at-pool-ok .pool-ok .ensures) (at-if1 .if1 .left)
+
+returns-3 : tie.Need-returns-3
+unfolding readDirP
+returns-3 c =
+    let at-read-dir = c .before .before .before in
+    let at-if2 = at-read-dir .before .before in
+    let at-is-text = at-if2 .before in
+    let at-if1 = at-is-text .before in
+    let at-pool-ok = at-if1 .before in
+    some-pool _ _ _ _ _ (at-pool-ok .pool-ok .ensures) (at-if1 .if1 .left) _ (some-text _ _ _ _ _ (at-is-text .is-text .ensures) (at-if2 .if2 .left) _ (told-listing _ _ _ _ _ _ _ (c .answer-of .ensures) (at-read-dir .read-dir .ensures)))
+
+pub read-dir-spec : {M : Type 1} → statement M
+read-dir-spec =
+    tie.close
+    (tie.spec
+    (λ c κs. tt)
+    returns
+    (λ c κs. tt)
+    returns-2
+    read-dir-requires
+    (λ c κs. tt)
+    (λ c. c .before .before .before .read-dir .kept .1 .1 .1 .1 .1 .0)
+    returns-3)
