@@ -1,16 +1,17 @@
 // Four slots and what their header blocks say: two claim one name in two spellings, the third was cut in the middle of a write, the fourth is
-// free. Each block is encoded and decoded again, and each line is printed from what was decoded. No contract can speak of what is written, so
-// all that is worked out stands in functions with contracts of their own.
+// free. They are laid on a device and mounted: the higher generation holds the name, and the slot that lost is free again. Each line is
+// printed from what was decoded, or from what the pool answered. No contract can speak of what is written, so all that is worked
+// out stands in functions with contracts of their own.
+use device::Geometry;
+use device::Place;
 use header::Decoded;
 use header::Header;
 use libc::STDOUT_FILENO;
-use lists::Ordering;
+use table::Pool;
 ghost use mathlib.Core.Path.{_≡_};
 ghost use Prim.Native.Nat.{_≤_};
 ghost use mathlib.Core.List.{[], _++_};
 ghost use lib.ListN.{length, take, drop};
-ghost use Rattle.lists.specs.Order.{cmpNat};
-ghost use Rattle.path.specs.Path.{samePath};
 ghost use Rattle.header.specs.Block.{maxPath, freeHeader, boundHeader, encoded};
 ghost use Rattle.demo.specs.Story.{saysOf};
 
@@ -22,13 +23,90 @@ enum Says {
 }
 
 fn main() {
-    let raw = claim(b"deck/07/tile", 1536, 5);
-    let cleaned = claim(b"deck//07/tile", 640, 9);
-    tell(0, raw);
-    tell(1, cleaned);
-    tell(2, torn(raw, cleaned));
-    tell(3, free(7));
-    settle(raw, cleaned);
+    let raw = claim(b"deck/07/tile", 384, 5);
+    let cleaned = claim(b"deck//07/tile", 320, 9);
+    let cut = torn(raw, cleaned);
+    let unused = free(7);
+    let mut bytes = [0u8; 4096];
+    lay(&mut bytes, 0, raw);
+    lay(&mut bytes, 1, cleaned);
+    lay(&mut bytes, 2, cut);
+    lay(&mut bytes, 3, unused);
+    tell_all(&bytes);
+    mount(&mut bytes);
+    tell_all(&bytes);
+}
+
+// Lays the header block of slot i on the device, whose slots are of 1,024 bytes.
+fn lay(bytes: &mut [u8], i: usize, block: [u8; 512]) {
+    if i < 4 {
+        let from = i * 1024;
+        let to = from + 512;
+        if to <= bytes.len() {
+            bytes::copy(&block, &mut bytes[from..to]);
+        }
+    }
+}
+
+// Mounts the four slots, and prints who holds the name and which slots are free.
+fn mount(bytes: &mut [u8]) {
+    let mut phys = [1024u64; 4];
+    let mut nums = [0u64; 16];
+    let mut names = [0u8; 1920];
+    let mut dirs = [0u8; 1928];
+    let mounted = pool::mount(
+        bytes,
+        &mut phys,
+        Geometry { size: 1024 },
+        b"",
+        Place { at: 0, last: 0 },
+        &mut nums,
+        &mut names,
+        &mut dirs,
+        4,
+    );
+    let answer = mounted.answer;
+    let pool = mounted.pool;
+    say(b"mount: ");
+    number(gate::number(answer) as u64);
+    say(b"\n");
+    tell_holder(&nums, &names, &dirs, pool);
+    tell_queue(pool);
+}
+
+// Prints which slot holds the name.
+fn tell_holder(nums: &[u64], names: &[u8], dirs: &[u8], pool: Pool) {
+    let reader = pool::open_read(nums, names, dirs, pool, b"deck/07/tile");
+    let slot = reader.slot;
+    let generation = reader.generation;
+    let len = file::file_len(nums, names, dirs, pool, slot, generation);
+    say(b"deck/07/tile: slot ");
+    number(slot as u64);
+    say(b", generation ");
+    number(generation);
+    say(b", length ");
+    number(len.len);
+    say(b"\n");
+}
+
+// Prints the free queue of four slots, from its front.
+fn tell_queue(pool: Pool) {
+    say(b"free slots:");
+    tell_cell(pool, 0);
+    tell_cell(pool, 1);
+    tell_cell(pool, 2);
+    tell_cell(pool, 3);
+    say(b"\n");
+}
+
+// Prints cell i of the queue, if there is one.
+fn tell_cell(pool: Pool, i: usize) {
+    let queue = pool.queue;
+    let free = pool.free;
+    if i < free && i < 64 {
+        say(b" ");
+        number(queue[i] as u64);
+    }
 }
 
 // The block of a slot that holds a file.
@@ -73,27 +151,25 @@ fn read(block: [u8; 512]) -> Says
     Says::Claim(h)
 }
 
-// Whether two blocks hold one path, of n and of m bytes.
-fn one_path(a: [u8; 512], n: usize, b: [u8; 512], m: usize) -> bool
-    requires { ⌜ (n ≤ maxPath) × (m ≤ maxPath) ⌝ }
-    ensures { λ r. ⌜ r ≡ samePath (take n (drop 32 a)) (take m (drop 32 b)) ⌝ }
-{
-    let d = Header::FIXED + n;
-    let e = Header::FIXED + m;
-    path::same_path(&a[Header::FIXED..d], &b[Header::FIXED..e])
+// Prints what each slot's block says.
+fn tell_all(bytes: &[u8]) {
+    tell(0, block(bytes, 0));
+    tell(1, block(bytes, 1));
+    tell(2, block(bytes, 2));
+    tell(3, block(bytes, 3));
 }
 
-// Which of two generations is the higher.
-fn compare(g: u64, k: u64) -> Ordering
-    ensures { λ r. ⌜ r ≡ cmpNat g k ⌝ }
-{
-    if g < k {
-        return Ordering::Less;
+// The header block of slot i.
+fn block(bytes: &[u8], i: usize) -> [u8; 512] {
+    let mut r = [0u8; 512];
+    if i < 4 {
+        let from = i * 1024;
+        let to = from + 512;
+        if to <= bytes.len() {
+            bytes::copy(&bytes[from..to], &mut r);
+        }
     }
-    if k < g {
-        return Ordering::Greater;
-    }
-    Ordering::Equal
+    r
 }
 
 // Prints what the block of a slot says.
@@ -125,27 +201,6 @@ fn tell_claim(block: [u8; 512], h: Header)
     say(b", length ");
     number(h.len);
     say(b"\n");
-}
-
-// Prints of two slots' claims whether they are of one path, and which has the higher generation.
-fn settle(a: [u8; 512], b: [u8; 512]) {
-    let Says::Claim(h) = read(a) else {
-        return;
-    };
-    let Says::Claim(k) = read(b) else {
-        return;
-    };
-    if one_path(a, h.path_len, b, k.path_len) {
-        say(b"slots 0 and 1 claim one path\n");
-    } else {
-        say(b"slots 0 and 1 claim two paths\n");
-    }
-    let o = compare(h.generation, k.generation);
-    match o {
-        Ordering::Less => say(b"slot 1 has the higher generation\n"),
-        Ordering::Equal => say(b"both have one generation\n"),
-        Ordering::Greater => say(b"slot 0 has the higher generation\n"),
-    }
 }
 
 fn number(n: u64) {
