@@ -85,14 +85,26 @@ fn numbers(nums: &[u64], names: &[u8], dirs: &[u8], pool: Pool) {
 fn rows_lent(nums: &[u64], names: &[u8], dirs: &[u8], pool: Pool) {
     let mut other = pool;
     other.rows = 3;
-    look(b"more slot rows lent than the record says", nums, names, dirs, other);
+    look(
+        b"more slot rows lent than the record says",
+        nums,
+        names,
+        dirs,
+        other,
+    );
     other = pool;
     other.rows = 64;
     look(b"fewer slot rows lent", nums, names, dirs, other);
     other = pool;
     other.dir_rows = 256;
     look(b"fewer directory rows lent", nums, names, dirs, other);
-    look(b"directory rows in the names' place", nums, dirs, names, pool);
+    look(
+        b"directory rows in the names' place",
+        nums,
+        dirs,
+        names,
+        pool,
+    );
 }
 
 // Prints what was tried, and the number of the answer.
