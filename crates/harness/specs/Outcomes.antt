@@ -14,6 +14,8 @@ use Rattle.path.specs.Path.{components, hasParent, normal, parentOf}
 use Rattle.header.specs.Block.{blockLen, maxPath, decoded}
 use Rattle.header.specs.declared.Decoded.{Decoded}
 use Rattle.header.specs.declared.Decoded.the-variants.{Absent, Found}
+use Rattle.writer.specs.Writer.{Shown, shown, poured}
+use Rattle.script.specs.Script.{scriptM}
 use Rattle.harness.specs.Calls.{Outcome, outcome, refusal, saidOf, encodeCall, decodeCall, textCall, sameCall, spelled, normalCall, parentCall, recordCall, lookupsCall}
 
 -- ---- one outcome
@@ -45,6 +47,9 @@ module _ {r r′ : ℕ} where
   record-lookups-one-outcome l n d rows dirRows held dirsHeld counter path times = one-answer (lookupsCall l n d rows dirRows held dirsHeld counter path times)
 
   module _ {o o′ : List ℕ} where
+    pub pool-script-one-outcome : (script out : List ℕ) → shown o r ≡ poured (scriptM script) out → shown o′ r′ ≡ poured (scriptM script) out → (r ≡ r′) × (o ≡ o′)
+    pool-script-one-outcome script out p q = (ap (λ (x : Shown). x .at) (p ∙ sym q), ap (λ (x : Shown). x .out) (p ∙ sym q))
+
     pub header-encode-one-outcome : (u l g : ℕ) (path out : List ℕ) → outcome r o ≡ encodeCall u l g path out → outcome r′ o′ ≡ encodeCall u l g path out → (r ≡ r′) × (o ≡ o′)
     header-encode-one-outcome u l g path out = one-outcome (encodeCall u l g path out)
 

@@ -1,5 +1,5 @@
-// The calls that are exported to the oracle harness: check, header, text and paths as plain functions on numbers and byte slices. Each may be
-// called with anything. A refusal is 01's number, in the order 3, 4, 5, 13, and leaves `out` as it was; 13 says that `out` is too small.
+// The calls that are exported to the oracle harness: check, header, text, paths and scripts as plain functions on numbers and byte slices. Each may
+// be called with anything. A refusal is 01's number, in the order 3, 4, 5, 13, and leaves `out` as it was; 13 says that `out` is too small.
 // Where an answer has a value, it is number * 2^32 + value.
 use header::Decoded;
 use header::Header;
@@ -11,6 +11,8 @@ ghost use Rattle.fnv.specs.Fnv.{fnvFrom};
 ghost use Rattle.le.specs.Le.{laid};
 ghost use Rattle.path.specs.Path.{normal};
 ghost use Rattle.table.specs.State.{bufs, view, IsPool};
+ghost use Rattle.writer.specs.Writer.{shown, poured};
+ghost use Rattle.script.specs.Script.{scriptM};
 ghost use Rattle.harness.specs.Calls.{outcome, refusal, numbersOf, encodeCall, decodeCall, textCall, sameCall, spelled, normalCall, parentCall, countedPool, recordCall, hits, lookupsCall};
 
 // The state of the 32-bit FNV-1a behind these bytes, from the state `start`.
@@ -153,6 +155,15 @@ fn refusal(number: u8) -> u64
     ensures { λ r. ⌜ r ≡ refusal number ⌝ }
 {
     (number as u64) * 0x1_0000_0000
+}
+
+// Runs a script over a small pool of its own, and writes what it puts out to out, as far as that reaches. Gives the length of the whole output, 0 if
+// the setup isn't whole.
+#[no_mangle]
+pub extern "C" fn pool_script(script: &[u8], out: &mut [u8]) -> usize
+    ensures { λ r. ⌜ shown (now (out .exit)) r ≡ poured (scriptM (now (script .entry))) (now (out .entry)) ⌝ }
+{
+    script::pool_script(script, out)
 }
 
 // Whether rows, and a record of these counts with an empty queue, are a pool: 1 or 0. Every public call begins with this test; it is exported

@@ -1,0 +1,22 @@
+use Rattle.operate.proofs.Ways.{room-is, no-room}
+use borrow.Author.Needs.{needs}
+use Rattle.operate.proofs.room.Statement.{statement}
+use Rattle.operate.proofs.room.Tie as tie
+use Rattle.operate.proofs.room.Reads as reads
+use Rattle.operate.proofs.room.Lts as lts
+use Rattle.reader.proofs.form_of.Reads as form-of-reads
+
+-- src/lib.rt:310:9
+form-of-requires : tie.Need-form-of-requires
+form-of-requires c κs = search needs
+
+-- src/lib.rt:312:9
+returns : tie.Need-returns
+returns c = room-is _ _ (c .before .before .form-of .ensures) (c .if1 .taken)
+
+-- src/lib.rt:306:1
+returns-2 : tie.Need-returns-2
+returns-2 c = no-room _ _ (c .before .before .form-of .ensures) (c .if1 .left)
+
+pub room-spec : {M : Type 1} → statement M
+room-spec = tie.close (tie.spec form-of-requires returns returns-2)

@@ -1,0 +1,82 @@
+use mathlib.Core.Path.{_∙_, _≡_, sym, subst}
+use mathlib.Core.List.{List}
+use Prim.Native.Nat.{ℕ, _≤_, _*_}
+use lib.ListN.{length}
+use borrow.Author.Tests.{not-true, not-false}
+use native.Mathlib.Nat.{mul-le-mul-right}
+use Rattle.reader.specs.declared.Span.{Span}
+use Rattle.reader.specs.Format.{spanAt}
+use Rattle.reader.specs.Laws.{span-inside}
+use Rattle.reader.proofs.Ways.{plan-cut, lengths-cut, setup-whole}
+use native.Mathlib.Omega.{arith}
+use borrow.Author.Needs.{needs}
+use Rattle.reader.proofs.behind_plan.Statement.{statement}
+use Rattle.reader.proofs.behind_plan.Tie as tie
+use Rattle.reader.proofs.behind_plan.Reads as reads
+use Rattle.reader.proofs.behind_plan.Lts as lts
+use Rattle.le.proofs.get_at.Reads as get-at-reads
+use Rattle.reader.proofs.no_setup.Reads as no-setup-reads
+use Rattle.reader.proofs.run_at.Reads as run-at-reads
+
+ended : (s : List ℕ) (i : ℕ) (a : Span) → a ≡ spanAt s i → a .to ≤ length s
+ended s i a e = subst (λ (r : Span). r .to ≤ length s) (sym e) (span-inside s i .end)
+
+-- src/lib.rt:259:9
+run-at-requires : tie.Need-run-at-requires
+run-at-requires c κs = search needs
+
+-- src/lib.rt:261:9
+no-setup-requires : tie.Need-no-setup-requires
+no-setup-requires c κs = search needs
+
+-- src/lib.rt:261:9
+returns : tie.Need-returns
+returns c = c .no-setup .ensures ∙ plan-cut _ _ _ _ _ _ (c .before .before .before .run-at .ensures) (not-true _ (c .before .if1 .taken))
+
+-- src/lib.rt:264:26
+mul-counted : tie.Need-mul-counted
+mul-counted c = search needs
+
+-- src/lib.rt:264:19
+add-counted : tie.Need-add-counted
+add-counted c = omega (arith, ended _ _ _ (c .before .before .run-at .ensures), c .before .before .before .before .pre .1)
+
+-- src/lib.rt:265:18
+add-if2 : tie.Need-add-if2
+add-if2 c = omega (arith, ended _ _ _ (c .before .before .run-at .ensures), c .before .before .before .before .pre .1)
+
+-- src/lib.rt:266:9
+no-setup-requires-2 : tie.Need-no-setup-requires-2
+no-setup-requires-2 c κs = search needs
+
+-- src/lib.rt:266:9
+returns-2 : tie.Need-returns-2
+returns-2 c = c .no-setup2 .ensures ∙ lengths-cut _ _ _ _ _ _ (c .before .before .before .before .run-at .ensures) (not-false _ (c .before .before .if1 .left)) (c .before .if2 .taken)
+
+-- src/lib.rt:276:16
+get-at-requires : tie.Need-get-at-requires
+get-at-requires c κs = search needs
+
+-- src/lib.rt:277:18
+add-t11 : tie.Need-add-t11
+add-t11 c = search needs
+
+-- src/lib.rt:255:1
+returns-3 : tie.Need-returns-3
+returns-3 c = setup-whole _ _ _ _ _ _ (c .before .before .before .before .run-at .ensures) (not-false _ (c .before .before .if1 .left)) _ (c .before .if2 .left) (c .get-at .ensures)
+
+pub behind-plan-spec : {M : Type 1} → statement M
+behind-plan-spec =
+    tie.close
+    (tie.spec
+    run-at-requires
+    no-setup-requires
+    returns
+    mul-counted
+    add-counted
+    add-if2
+    no-setup-requires-2
+    returns-2
+    get-at-requires
+    add-t11
+    returns-3)

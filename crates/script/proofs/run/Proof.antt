@@ -1,0 +1,95 @@
+use mathlib.Core.Path.{_∙_, _≡_, refl}
+use Prim.Native.Nat.{_-_}
+use lib.ListN.{length}
+use Rattle.device.specs.Device.{dev}
+use Rattle.table.specs.State.{bufs}
+use Rattle.steps.specs.World.{lent}
+use Rattle.writer.specs.Writer.{shown}
+use Rattle.script.proofs.Ways.{Going, sound-of, going-start, going-end, going-on}
+use native.Mathlib.Omega.{arith}
+use Rattle.script.proofs.run.Statement.{statement}
+use Rattle.script.proofs.run.Tie as tie
+use Rattle.script.proofs.run.Reads as reads
+use Rattle.script.proofs.run.Lts as lts
+use Rattle.operate.proofs.step.Reads as step-reads
+use Rattle.reader.proofs.op_at.Reads as op-at-reads
+
+abbrev Inv-loop : tie.InvT-loop
+Inv-loop bytes₀ phys₀ geometry plan nums₀ names₀ dirs₀ script from out₀ ran₀ pos₀ bytes phys nums names dirs out ran pos = (length bytes ≡ length bytes₀) × (length phys ≡ length phys₀) × (length nums ≡ length nums₀) × (length names ≡ length names₀) × (length dirs ≡ length dirs₀) × (length out ≡ length out₀) × Going script plan geometry from (lent (dev bytes₀ phys₀ (ran₀ .place)) (bufs (ran₀ .pool) nums₀ names₀ dirs₀)) (shown out₀ 0) pos (lent (dev bytes phys (ran .place)) (bufs (ran .pool) nums names dirs)) (shown out (ran .at))
+
+abbrev μ-loop : tie.MeasureT-loop
+μ-loop bytes₀ phys₀ geometry plan nums₀ names₀ dirs₀ script from out₀ ran₀ pos₀ bytes phys nums names dirs out ran pos = length script - pos
+
+-- src/lib.rt:46:5
+loop-holds : tie.Need-loop-holds Inv-loop μ-loop
+loop-holds c = (refl, refl, refl, refl, refl, refl, going-start _ _ _ _ _ _ (c .before .before .before .before .before .before .before .before .pre .0))
+
+-- src/lib.rt:47:13
+op-at-requires : tie.Need-op-at-requires Inv-loop μ-loop
+op-at-requires c κs = c .loop .inv .6 .inside
+
+-- src/lib.rt:50:13
+same-length : tie.Need-same-length Inv-loop μ-loop
+same-length c = c .before .before .loop .inv .0
+
+-- src/lib.rt:50:13
+same-length-2 : tie.Need-same-length-2 Inv-loop μ-loop
+same-length-2 c = c .before .before .loop .inv .1
+
+-- src/lib.rt:50:13
+same-length-3 : tie.Need-same-length-3 Inv-loop μ-loop
+same-length-3 c = c .before .before .loop .inv .2
+
+-- src/lib.rt:50:13
+same-length-4 : tie.Need-same-length-4 Inv-loop μ-loop
+same-length-4 c = c .before .before .loop .inv .3
+
+-- src/lib.rt:50:13
+same-length-5 : tie.Need-same-length-5 Inv-loop μ-loop
+same-length-5 c = c .before .before .loop .inv .4
+
+-- src/lib.rt:50:13
+same-length-6 : tie.Need-same-length-6 Inv-loop μ-loop
+same-length-6 c = c .before .before .loop .inv .5
+
+-- src/lib.rt:50:13
+returns : tie.Need-returns Inv-loop μ-loop
+returns c = (going-end _ _ _ _ _ _ _ _ _ (c .before .before .loop .inv .6) _ (c .before .op-at .ensures) (c .if1 .taken), omega (arith, c .before .before .loop .inv .6 .few, c .before .before .loop .inv .6 .inside))
+
+-- src/lib.rt:55:9
+step-requires : tie.Need-step-requires Inv-loop μ-loop
+step-requires c κs =
+    let S = sound-of (c .before .before .before .before .before .before .before .before .before .before .before .before .before .before .before .before .before .before .before .args .script .now) (c .before .before .before .before .before .before .before .before .before .before .loop .pos) _ (λ j. omega (arith, c .before .before .before .before .before .before .before .before .before .before .before .before .shared-slice-known2 .given j)) (c .before .before .before .before .before .before .before .before .before .op-at .ensures) (c .before .before .before .before .before .before .before .before .if1 .left) in
+    (S .held, S .code, S .small, omega (arith, c .before .before .before .before .before .before .before .before .before .before .loop .inv .6 .few, c .before .before .before .before .before .before .before .before .before .before .loop .inv .6 .inside, c .before .before .before .before .before .before .before .before .before .before .before .before .before .before .before .before .before .before .before .pre .1))
+
+-- src/lib.rt:46:5
+loop-less : tie.Need-loop-less Inv-loop μ-loop
+loop-less c =
+    let S = sound-of (c .before .before .before .before .before .before .before .before .before .before .before .before .before .before .before .before .before .before .before .before .before .before .before .before .before .before .before .before .before .before .before .before .before .args .script .now) (c .before .before .before .before .before .before .before .before .before .before .before .before .before .before .before .before .before .before .before .before .before .before .before .before .loop .pos) _ (λ j. omega (arith, c .before .before .before .before .before .before .before .before .before .before .before .before .before .before .before .before .before .before .before .before .before .before .before .before .before .before .shared-slice-known2 .given j)) (c .before .before .before .before .before .before .before .before .before .before .before .before .before .before .before .before .before .before .before .before .before .before .before .op-at .ensures) (c .before .before .before .before .before .before .before .before .before .before .before .before .before .before .before .before .before .before .before .before .before .before .if1 .left) in
+    omega (arith, S .further, S .held .second-end)
+
+-- src/lib.rt:46:5
+loop-again : tie.Need-loop-again Inv-loop μ-loop
+loop-again c =
+    let k = c .before .before .before .before .before .before .before .before .before .before .before .before .before .step .kept in
+    let i = c .before .before .before .before .before .before .before .before .before .before .before .before .before .before .before .before .before .before .before .before .before .before .before .before .loop .inv in
+    (k .0 ∙ i .0, k .1 .0 ∙ i .1, k .1 .1 .1 .1 .1 .0 ∙ i .2, k .1 .1 .1 .1 .1 .1 .0 ∙ i .3, k .1 .1 .1 .1 .1 .1 .1 .0 ∙ i .4, k .1 .1 .1 .1 .1 .1 .1 .1 .1 .1 .1 .0 ∙ i .5, going-on _ _ _ _ _ _ _ _ _ (i .6) _ (c .before .before .before .before .before .before .before .before .before .before .before .before .before .before .before .before .before .before .before .before .before .before .before .op-at .ensures) _ _ (λ j. omega (arith, c .before .before .before .before .before .before .before .before .before .before .before .before .before .before .before .before .before .before .before .before .before .before .before .before .before .before .shared-slice-known2 .given j)) (c .before .before .before .before .before .before .before .before .before .before .before .before .before .before .before .before .before .before .before .before .before .before .if1 .left) (c .before .before .before .before .before .before .before .before .before .before .before .before .before .step .ensures .0) (c .before .before .before .before .before .before .before .before .before .before .before .before .before .step .ensures .1))
+
+pub run-spec : {M : Type 1} → statement M
+run-spec =
+    tie.close
+    (tie.spec
+    Inv-loop
+    μ-loop
+    loop-holds
+    op-at-requires
+    same-length
+    same-length-2
+    same-length-3
+    same-length-4
+    same-length-5
+    same-length-6
+    returns
+    step-requires
+    loop-less
+    loop-again)
