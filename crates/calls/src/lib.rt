@@ -1,25 +1,181 @@
-// Operations of a script (docs/EXPORTS.md) that open, read, write and move files, each by its public call. A call may refuse: its number is told
-// then as any other. Each function goes by the operation's code, the last of its calls for any other code; the caller has seen that the runs lie
-// inside of the script.
+// The sixteen public calls as one: a call is an enum with its numbers, and one reply has room for what any of them tells. Beside a call come two
+// runs of bytes and a buffer: `first` is the path, or the bytes that are written; `second` is the path that a file is renamed to; `buf` is what a read
+// or a listing fills. A call takes of them what it needs. Here are the calls on files, in groups; crate dispatch has those on directories, and
+// finds the group. Each group goes by the call's code, the last of its calls for any other code.
 use device::Geometry;
 use device::Place;
-use reader::Op;
+use gate::Answer;
 use table::Pool;
 ghost use mathlib.Core.Path.{_≡_};
 ghost use Rattle.device.specs.Device.{dev};
 ghost use Rattle.table.specs.State.{bufs};
 ghost use Rattle.steps.specs.World.{lent};
-ghost use Rattle.reader.specs.Laws.{Held};
-ghost use Rattle.calls.specs.Calls.{went, told, called, openingM, readingM, handlingM, movingM};
+ghost use Rattle.calls.specs.Calls.{plainly, handled, codedOf, replied, quietly, called, openingM, readingM, handlingM, movingM};
 
-// The number of a call, the numbers of its answer, and the place and the record after it.
-pub struct Went {
-    pub number: u8,
-    pub x: u64,
-    pub y: u64,
-    pub z: u64,
+// A call with its numbers.
+pub enum Call {
+    Mount {
+        slots: usize,
+    },
+    Adopt {
+        slots: usize,
+    },
+    OpenWrite {
+        keep: bool,
+    },
+    OpenRead,
+    ReadAt {
+        slot: usize,
+        generation: u64,
+        at: u64,
+    },
+    WriteAt {
+        slot: usize,
+        generation: u64,
+        at: u64,
+    },
+    SetLen {
+        slot: usize,
+        generation: u64,
+        len: u64,
+    },
+    FileLen {
+        slot: usize,
+        generation: u64,
+    },
+    Sync {
+        slot: usize,
+        generation: u64,
+    },
+    SyncDir,
+    Rename,
+    RemoveFile,
+    CreateDirAll,
+    ReadDir,
+    Exists,
+    Metadata,
+}
+
+// What a call comes to: its answer, a handle and a length, how many bytes it gave, yes or no, and the place and the record after it. What a call
+// does not tell is zero.
+pub struct Reply {
+    pub answer: Answer,
+    pub slot: usize,
+    pub generation: u64,
+    pub len: u64,
+    pub count: usize,
+    pub yes: bool,
     pub place: Place,
     pub pool: Pool,
+}
+
+// A call as numbers alone: its code, in the order above from 1 on, and its numbers; those it does not have are zero. `at` is an offset or a length.
+pub struct Coded {
+    pub code: usize,
+    pub slots: usize,
+    pub keep: bool,
+    pub slot: usize,
+    pub generation: u64,
+    pub at: u64,
+}
+
+fn plain(code: usize) -> Coded
+    ensures { λ r. ⌜ r ≡ plainly code ⌝ }
+{
+    Coded {
+        code: code,
+        slots: 0,
+        keep: false,
+        slot: 0,
+        generation: 0,
+        at: 0,
+    }
+}
+
+fn on_handle(code: usize, slot: usize, generation: u64, at: u64) -> Coded
+    ensures { λ r. ⌜ r ≡ handled code slot generation at ⌝ }
+{
+    Coded {
+        code: code,
+        slots: 0,
+        keep: false,
+        slot: slot,
+        generation: generation,
+        at: at,
+    }
+}
+
+// The code of a call, and its numbers.
+pub fn numbers_of(call: Call) -> Coded
+    ensures { λ r. ⌜ r ≡ codedOf call ⌝ }
+{
+    match call {
+        Call::Mount { slots } => Coded {
+            code: 1,
+            slots: slots,
+            keep: false,
+            slot: 0,
+            generation: 0,
+            at: 0,
+        },
+        Call::Adopt { slots } => Coded {
+            code: 2,
+            slots: slots,
+            keep: false,
+            slot: 0,
+            generation: 0,
+            at: 0,
+        },
+        Call::OpenWrite { keep } => Coded {
+            code: 3,
+            slots: 0,
+            keep: keep,
+            slot: 0,
+            generation: 0,
+            at: 0,
+        },
+        Call::OpenRead => plain(4),
+        Call::ReadAt {
+            slot,
+            generation,
+            at,
+        } => on_handle(5, slot, generation, at),
+        Call::WriteAt {
+            slot,
+            generation,
+            at,
+        } => on_handle(6, slot, generation, at),
+        Call::SetLen {
+            slot,
+            generation,
+            len,
+        } => on_handle(7, slot, generation, len),
+        Call::FileLen { slot, generation } => on_handle(8, slot, generation, 0),
+        Call::Sync { slot, generation } => on_handle(9, slot, generation, 0),
+        Call::SyncDir => plain(10),
+        Call::Rename => plain(11),
+        Call::RemoveFile => plain(12),
+        Call::CreateDirAll => plain(13),
+        Call::ReadDir => plain(14),
+        Call::Exists => plain(15),
+        Call::Metadata => plain(16),
+    }
+}
+
+// The reply of a call that tells nothing but its answer.
+pub fn quiet(answer: Answer, place: Place, pool: Pool) -> Reply
+    ensures { λ r. ⌜ r ≡ quietly answer place pool ⌝ }
+{
+    Reply {
+        answer: answer,
+        slot: 0,
+        generation: 0,
+        len: 0,
+        count: 0,
+        yes: false,
+        place: place,
+        pool: pool,
+    }
 }
 
 // mount, adopt, open_write.
@@ -33,22 +189,31 @@ pub fn opening(
     names: &mut [u8],
     dirs: &mut [u8],
     pool: Pool,
-    script: &[u8],
-    op: Op,
-) -> Went
-    requires { ⌜ Held (now script) op ⌝ }
-    ensures { λ r. ⌜ told (r .number) (r .x) (r .y) (r .z) (lent (dev (now (bytes .exit)) (now (phys .exit)) (r .place)) (bufs (r .pool) (now (nums .exit)) (now (names .exit)) (now (dirs .exit)))) ≡ openingM (now (script .entry)) (now (plan .entry)) geometry op (lent (dev (now (bytes .entry)) (now (phys .entry)) place) (bufs pool (now (nums .entry)) (now (names .entry)) (now (dirs .entry)))) ⌝ }
+    call: Coded,
+    first: &[u8],
+) -> Reply
+    ensures { λ r. ⌜ replied r (now (bytes .exit)) (now (phys .exit)) (now (nums .exit)) (now (names .exit)) (now (dirs .exit)) ≡ openingM (now (plan .entry)) geometry call (now (first .entry)) (lent (dev (now (bytes .entry)) (now (phys .entry)) place) (bufs pool (now (nums .entry)) (now (names .entry)) (now (dirs .entry)))) ⌝ }
 {
-    let code = op.code;
+    let code = call.code;
     if code == 1 {
-        let r = pool::mount(bytes, phys, geometry, plan, place, nums, names, dirs, op.n);
+        let r = intake::mount(
+            bytes,
+            phys,
+            geometry,
+            plan,
+            place,
+            nums,
+            names,
+            dirs,
+            call.slots,
+        );
         let answer = r.answer;
         let after = r.place;
         let left = r.pool;
-        return quiet(gate::number(answer), after, left);
+        return quiet(answer, after, left);
     }
     if code == 2 {
-        let r = pool::adopt(
+        let r = intake::adopt(
             bytes,
             phys,
             geometry,
@@ -58,17 +223,14 @@ pub fn opening(
             names,
             dirs,
             pool,
-            op.n,
+            call.slots,
         );
         let answer = r.answer;
         let after = r.place;
         let left = r.pool;
-        return quiet(gate::number(answer), after, left);
+        return quiet(answer, after, left);
     }
-    let first = op.first;
-    let a = first.from;
-    let e = first.to;
-    let r = pool::open_write(
+    let r = named::open_write(
         bytes,
         phys,
         geometry,
@@ -78,37 +240,25 @@ pub fn opening(
         names,
         dirs,
         pool,
-        &script[a..e],
-        op.n != 0,
+        first,
+        call.keep,
     );
     let answer = r.answer;
     let after = r.place;
     let left = r.pool;
-    Went {
-        number: gate::number(answer),
-        x: r.slot as u64,
-        y: r.generation,
-        z: r.len,
+    Reply {
+        answer: answer,
+        slot: r.slot,
+        generation: r.generation,
+        len: r.len,
+        count: 0,
+        yes: false,
         place: after,
         pool: left,
     }
 }
 
-// What a call without results comes to.
-pub fn quiet(number: u8, place: Place, pool: Pool) -> Went
-    ensures { λ r. ⌜ r ≡ went number 0 0 0 place pool ⌝ }
-{
-    Went {
-        number: number,
-        x: 0,
-        y: 0,
-        z: 0,
-        place: place,
-        pool: pool,
-    }
-}
-
-// open_read, read.
+// open_read, read_at.
 pub fn reading(
     bytes: &[u8],
     phys: &[u64],
@@ -119,25 +269,23 @@ pub fn reading(
     names: &[u8],
     dirs: &[u8],
     pool: Pool,
-    script: &[u8],
-    op: Op,
+    call: Coded,
+    first: &[u8],
     buf: &mut [u8],
-) -> Went
-    requires { ⌜ Held (now script) op ⌝ }
-    ensures { λ r. ⌜ called (told (r .number) (r .x) (r .y) (r .z) (lent (dev (now (bytes .entry)) (now (phys .entry)) (r .place)) (bufs (r .pool) (now (nums .entry)) (now (names .entry)) (now (dirs .entry))))) (now (buf .exit)) ≡ readingM (now (script .entry)) (now (plan .entry)) geometry op (now (buf .entry)) (lent (dev (now (bytes .entry)) (now (phys .entry)) place) (bufs pool (now (nums .entry)) (now (names .entry)) (now (dirs .entry)))) ⌝ }
+) -> Reply
+    ensures { λ r. ⌜ called (replied r (now (bytes .entry)) (now (phys .entry)) (now (nums .entry)) (now (names .entry)) (now (dirs .entry))) (now (buf .exit)) ≡ readingM (now (plan .entry)) geometry call (now (first .entry)) (now (buf .entry)) (lent (dev (now (bytes .entry)) (now (phys .entry)) place) (bufs pool (now (nums .entry)) (now (names .entry)) (now (dirs .entry)))) ⌝ }
 {
-    let code = op.code;
+    let code = call.code;
     if code == 4 {
-        let first = op.first;
-        let a = first.from;
-        let e = first.to;
-        let r = pool::open_read(nums, names, dirs, pool, &script[a..e]);
+        let r = named::open_read(nums, names, dirs, pool, first);
         let answer = r.answer;
-        return Went {
-            number: gate::number(answer),
-            x: r.slot as u64,
-            y: r.generation,
-            z: 0,
+        return Reply {
+            answer: answer,
+            slot: r.slot,
+            generation: r.generation,
+            len: 0,
+            count: 0,
+            yes: false,
             place: place,
             pool: pool,
         };
@@ -152,24 +300,26 @@ pub fn reading(
         names,
         dirs,
         pool,
-        op.slot,
-        op.generation,
-        op.at,
+        call.slot,
+        call.generation,
+        call.at,
         buf,
     );
     let answer = r.answer;
     let after = r.place;
-    Went {
-        number: gate::number(answer),
-        x: r.count as u64,
-        y: 0,
-        z: 0,
+    Reply {
+        answer: answer,
+        slot: 0,
+        generation: 0,
+        len: 0,
+        count: r.count,
+        yes: false,
         place: after,
         pool: pool,
     }
 }
 
-// write, set_len, file_len, sync.
+// write_at, set_len, file_len, sync.
 pub fn handling(
     bytes: &mut [u8],
     phys: &mut [u64],
@@ -180,17 +330,13 @@ pub fn handling(
     names: &[u8],
     dirs: &[u8],
     pool: Pool,
-    script: &[u8],
-    op: Op,
-) -> Went
-    requires { ⌜ Held (now script) op ⌝ }
-    ensures { λ r. ⌜ told (r .number) (r .x) (r .y) (r .z) (lent (dev (now (bytes .exit)) (now (phys .exit)) (r .place)) (bufs (r .pool) (now (nums .exit)) (now (names .entry)) (now (dirs .entry)))) ≡ handlingM (now (script .entry)) (now (plan .entry)) geometry op (lent (dev (now (bytes .entry)) (now (phys .entry)) place) (bufs pool (now (nums .entry)) (now (names .entry)) (now (dirs .entry)))) ⌝ }
+    call: Coded,
+    first: &[u8],
+) -> Reply
+    ensures { λ r. ⌜ replied r (now (bytes .exit)) (now (phys .exit)) (now (nums .exit)) (now (names .entry)) (now (dirs .entry)) ≡ handlingM (now (plan .entry)) geometry call (now (first .entry)) (lent (dev (now (bytes .entry)) (now (phys .entry)) place) (bufs pool (now (nums .entry)) (now (names .entry)) (now (dirs .entry)))) ⌝ }
 {
-    let code = op.code;
+    let code = call.code;
     if code == 6 {
-        let first = op.first;
-        let a = first.from;
-        let e = first.to;
         let r = file::write_at(
             bytes,
             phys,
@@ -201,14 +347,14 @@ pub fn handling(
             names,
             dirs,
             pool,
-            op.slot,
-            op.generation,
-            op.at,
-            &script[a..e],
+            call.slot,
+            call.generation,
+            call.at,
+            first,
         );
         let answer = r.answer;
         let after = r.place;
-        return quiet(gate::number(answer), after, pool);
+        return quiet(answer, after, pool);
     }
     if code == 7 {
         let r = file::set_len(
@@ -221,22 +367,24 @@ pub fn handling(
             names,
             dirs,
             pool,
-            op.slot,
-            op.generation,
-            op.at,
+            call.slot,
+            call.generation,
+            call.at,
         );
         let answer = r.answer;
         let after = r.place;
-        return quiet(gate::number(answer), after, pool);
+        return quiet(answer, after, pool);
     }
     if code == 8 {
-        let r = file::file_len(nums, names, dirs, pool, op.slot, op.generation);
+        let r = file::file_len(nums, names, dirs, pool, call.slot, call.generation);
         let answer = r.answer;
-        return Went {
-            number: gate::number(answer),
-            x: r.len,
-            y: 0,
-            z: 0,
+        return Reply {
+            answer: answer,
+            slot: 0,
+            generation: 0,
+            len: r.len,
+            count: 0,
+            yes: false,
             place: place,
             pool: pool,
         };
@@ -251,15 +399,15 @@ pub fn handling(
         names,
         dirs,
         pool,
-        op.slot,
-        op.generation,
+        call.slot,
+        call.generation,
     );
     let answer = r.answer;
     let after = r.place;
-    quiet(gate::number(answer), after, pool)
+    quiet(answer, after, pool)
 }
 
-// rename, remove.
+// rename, remove_file.
 pub fn moving(
     bytes: &mut [u8],
     phys: &mut [u64],
@@ -270,21 +418,15 @@ pub fn moving(
     names: &mut [u8],
     dirs: &mut [u8],
     pool: Pool,
-    script: &[u8],
-    op: Op,
-) -> Went
-    requires { ⌜ Held (now script) op ⌝ }
-    ensures { λ r. ⌜ told (r .number) (r .x) (r .y) (r .z) (lent (dev (now (bytes .exit)) (now (phys .exit)) (r .place)) (bufs (r .pool) (now (nums .exit)) (now (names .exit)) (now (dirs .exit)))) ≡ movingM (now (script .entry)) (now (plan .entry)) geometry op (lent (dev (now (bytes .entry)) (now (phys .entry)) place) (bufs pool (now (nums .entry)) (now (names .entry)) (now (dirs .entry)))) ⌝ }
+    call: Coded,
+    first: &[u8],
+    second: &[u8],
+) -> Reply
+    ensures { λ r. ⌜ replied r (now (bytes .exit)) (now (phys .exit)) (now (nums .exit)) (now (names .exit)) (now (dirs .exit)) ≡ movingM (now (plan .entry)) geometry call (now (first .entry)) (now (second .entry)) (lent (dev (now (bytes .entry)) (now (phys .entry)) place) (bufs pool (now (nums .entry)) (now (names .entry)) (now (dirs .entry)))) ⌝ }
 {
-    let code = op.code;
-    let first = op.first;
-    let a = first.from;
-    let e = first.to;
+    let code = call.code;
     if code == 11 {
-        let second = op.second;
-        let b = second.from;
-        let f = second.to;
-        let r = pool::rename(
+        let r = named::rename(
             bytes,
             phys,
             geometry,
@@ -294,15 +436,15 @@ pub fn moving(
             names,
             dirs,
             pool,
-            &script[a..e],
-            &script[b..f],
+            first,
+            second,
         );
         let answer = r.answer;
         let after = r.place;
         let left = r.pool;
-        return quiet(gate::number(answer), after, left);
+        return quiet(answer, after, left);
     }
-    let r = pool::remove_file(
+    let r = named::remove_file(
         bytes,
         phys,
         geometry,
@@ -312,10 +454,10 @@ pub fn moving(
         names,
         dirs,
         pool,
-        &script[a..e],
+        first,
     );
     let answer = r.answer;
     let after = r.place;
     let left = r.pool;
-    quiet(gate::number(answer), after, left)
+    quiet(answer, after, left)
 }

@@ -54,7 +54,7 @@ fn mount(bytes: &mut [u8]) {
     let mut nums = [0u64; 16];
     let mut names = [0u8; 1920];
     let mut dirs = [0u8; 1928];
-    let mounted = pool::mount(
+    let mounted = intake::mount(
         bytes,
         &mut phys,
         Geometry { size: 1024 },
@@ -76,7 +76,7 @@ fn mount(bytes: &mut [u8]) {
 
 // Prints which slot holds the name.
 fn tell_holder(nums: &[u64], names: &[u8], dirs: &[u8], pool: Pool) {
-    let reader = pool::open_read(nums, names, dirs, pool, b"deck/07/tile");
+    let reader = named::open_read(nums, names, dirs, pool, b"deck/07/tile");
     let slot = reader.slot;
     let generation = reader.generation;
     let len = file::file_len(nums, names, dirs, pool, slot, generation);

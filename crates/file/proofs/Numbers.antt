@@ -9,9 +9,9 @@ use Rattle.rows.specs.Rows.{at, isDirty, lenOf}
 use Rattle.table.specs.State.{State}
 use Rattle.steps.specs.World.{World, world}
 use Rattle.steps.specs.Steps.{syncRowM}
-use Rattle.handles.specs.Outcome.{Outcome}
+use Rattle.steps.specs.Numbers.{either, Few, LastW, flush-last, cut-last, store-last, read-last, sync-row-last}
+use Rattle.handles.specs.Outcome.{Outcome, Out}
 use Rattle.handles.specs.Handles.{isLive, onHandle, filling, readPart, fileLenM, readAtM, resizedM, writeAtM, setLenM, syncM}
-use Rattle.gate.proofs.Numbers.{either, Few, LastW, Out, flush-last, cut-last, store-last, read-last, sync-row-last}
 
 module _ (plan : List ℕ) (g : Geometry) (slot generation : ℕ) (w : World) where
   live-few : {R : Type 0} (zeros : R) (o : Outcome R World) → Out o → Out (onHandle slot generation zeros w o)

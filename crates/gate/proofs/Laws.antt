@@ -20,7 +20,7 @@ use Rattle.gate.specs.declared.Answer.{Answer}
 use Rattle.gate.specs.declared.Answer.the-variants.{TooSmall}
 use Rattle.gate.specs.Answers.{numberOf, answerOf, number-back}
 use Rattle.gate.specs.Refusals.{pooled, holdsPool, shaped, worded, onDevice, barred}
-use Rattle.gate.proofs.Numbers.{either}
+use Rattle.steps.specs.Numbers.{either}
 
 -- ---- the answer of a number
 

@@ -1,6 +1,7 @@
 -- What a call comes to: its number (01, "Numbers that come back"), its further results, and what it leaves behind.
 use Prim.Native.Nat.{ℕ}
 use Rattle.steps.specs.World.{World, Lent, flatW}
+use Rattle.steps.specs.Numbers.{Few}
 
 pub record Outcome (R X : Type 0) : Type 0 where
   pub out : ℕ
@@ -21,3 +22,7 @@ None = Unit {0}
 -- The number that the last device call came to: 0, 10 or 11.
 abbrev pub came : World → Outcome None World
 came w = outcome (w .dev .place .last) tt w
+
+-- Its number is one of 01's.
+abbrev pub Out : {R X : Type 0} → Outcome R X → Type 0
+Out o = Few (o .out)

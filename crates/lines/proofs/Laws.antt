@@ -12,7 +12,7 @@ use Rattle.device.specs.declared.Geometry.{Geometry}
 use Rattle.steps.specs.World.{Lent}
 use Rattle.handles.specs.Outcome.{Outcome, outcome, None}
 use Rattle.files.specs.Files.{Handle, handle}
-use Rattle.pool.specs.Public.{reading, openReadP, openWriteP, removeP, renameP}
+use Rattle.named.specs.Public.{reading, openReadP, openWriteP, removeP, renameP}
 use Rattle.file.specs.Public.{syncP}
 use Rattle.writer.specs.Writer.{Shown, poured}
 use Rattle.commands.specs.declared.Command.{Command}

@@ -6,7 +6,7 @@ use lib.Dec.{eqb}
 use Rattle.device.specs.declared.Geometry.{Geometry}
 use Rattle.steps.specs.World.{Lent}
 use Rattle.handles.specs.Outcome.{Outcome, None}
-use Rattle.pool.specs.Public.{openReadP, openWriteP, removeP, renameP}
+use Rattle.named.specs.Public.{openReadP, openWriteP, removeP, renameP}
 use Rattle.file.specs.Public.{syncP}
 use Rattle.writer.specs.Writer.{Shown, poured}
 use Rattle.commands.specs.Commands.{Request, create, sync, remove, move, dump, what, requestOf}

@@ -40,7 +40,7 @@ fn create(
 ) -> Said
     ensures { λ r. ⌜ spoken (shown (now (out .exit)) (r .len)) (lent (dev (now (bytes .exit)) (now (phys .exit)) (r .place)) (bufs (r .pool) (now (nums .exit)) (now (names .exit)) (now (dirs .exit)))) ≡ says (createT (now (path .entry)) (lent (dev (now (bytes .entry)) (now (phys .entry)) place) (bufs pool (now (nums .entry)) (now (names .entry)) (now (dirs .entry))))) (now (out .entry)) ⌝ }
 {
-    let done = pool::open_write(
+    let done = named::open_write(
         bytes,
         phys,
         geometry(),
@@ -79,7 +79,7 @@ fn sync(
 ) -> Said
     ensures { λ r. ⌜ spoken (shown (now (out .exit)) (r .len)) (lent (dev (now (bytes .exit)) (now (phys .exit)) (r .place)) (bufs (r .pool) (now (nums .exit)) (now (names .entry)) (now (dirs .entry)))) ≡ says (syncT (now (path .entry)) (lent (dev (now (bytes .entry)) (now (phys .entry)) place) (bufs pool (now (nums .entry)) (now (names .entry)) (now (dirs .entry))))) (now (out .entry)) ⌝ }
 {
-    let opened = pool::open_read(nums, names, dirs, pool, path);
+    let opened = named::open_read(nums, names, dirs, pool, path);
     let refusal = opened.answer;
     let no = gate::number(refusal);
     if no != 0 {
@@ -126,7 +126,7 @@ fn remove(
 ) -> Said
     ensures { λ r. ⌜ spoken (shown (now (out .exit)) (r .len)) (lent (dev (now (bytes .exit)) (now (phys .exit)) (r .place)) (bufs (r .pool) (now (nums .exit)) (now (names .exit)) (now (dirs .entry)))) ≡ says (removeT (now (path .entry)) (lent (dev (now (bytes .entry)) (now (phys .entry)) place) (bufs pool (now (nums .entry)) (now (names .entry)) (now (dirs .entry))))) (now (out .entry)) ⌝ }
 {
-    let done = pool::remove_file(
+    let done = named::remove_file(
         bytes,
         phys,
         geometry(),
@@ -164,7 +164,7 @@ fn rename(
 ) -> Said
     ensures { λ r. ⌜ spoken (shown (now (out .exit)) (r .len)) (lent (dev (now (bytes .exit)) (now (phys .exit)) (r .place)) (bufs (r .pool) (now (nums .exit)) (now (names .exit)) (now (dirs .exit)))) ≡ says (moveT (now (from .entry)) (now (to .entry)) (lent (dev (now (bytes .entry)) (now (phys .entry)) place) (bufs pool (now (nums .entry)) (now (names .entry)) (now (dirs .entry))))) (now (out .entry)) ⌝ }
 {
-    let done = pool::rename(
+    let done = named::rename(
         bytes,
         phys,
         geometry(),

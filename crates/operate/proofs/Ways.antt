@@ -1,113 +1,108 @@
--- What a public call on directories came to, told as its operation tells it; the row of the table that a code stands for; and the answer.
+-- The call that a code stands for, row by row of the table; and the answer.
 use Prim.Native.Nat.{ℕ, _+_, _-_, _<_, _≤_}
-use mathlib.Core.Path.{_≡_, refl, sym, ap, ap₂, subst, _∙_}
-use mathlib.Core.Bool.{Bool, true, false, cond}
+use mathlib.Core.Path.{_≡_, sym, ap, _∙_}
+use mathlib.Core.Bool.{Bool, true, false, cond, not}
 use mathlib.Core.List.{List, _++_}
 use native.Mathlib.Omega.{arith}
 use borrow.Author.Tests.{eq-eqb, ne-eqb, le-leb, lt-leb}
-use lib.Dec.{eqb, leb}
+use lib.Dec.{eqb}
 use lib.ListN.{length, take, drop, replicate, length-replicate, replicate-append-replicate}
 use lib.Seq.{take-at}
 use Rattle.le.specs.Le.{le}
+use Rattle.le.specs.Fields.{length-le}
 use Rattle.device.specs.declared.Geometry.{Geometry}
-use Rattle.device.specs.declared.Place.{Place}
-use Rattle.device.specs.Device.{Dev, dev}
-use Rattle.table.specs.declared.Pool.{Pool}
-use Rattle.table.specs.State.{Bufs, bufs}
-use Rattle.steps.specs.World.{Lent, lent}
-use Rattle.handles.specs.Outcome.{Outcome, outcome, None}
-use Rattle.gate.specs.declared.Answer.{Answer}
+use Rattle.steps.specs.World.{Lent}
 use Rattle.gate.specs.Answers.{numberOf}
-use Rattle.folder.specs.Public.{About, about, syncDirP, createDirAllP, readDirP, existsP, metadataP}
 use Rattle.reader.specs.declared.Op.{Op}
 use Rattle.reader.specs.declared.Form.{Form}
 use Rattle.reader.specs.Format.{part, formOf}
-use Rattle.writer.specs.Writer.{Shown, shown, pours}
-use Rattle.calls.specs.declared.Went.{Went}
-use Rattle.calls.specs.Calls.{went, Told, told, Called, called, quiet, openingM, readingM, handlingM, movingM}
-use Rattle.operate.specs.Operate.{bit, made, listed, found, described, isMove, directoriesM, frontM, backM, callM, answerM, room, Said, saidOf, opM, Reached, reached, spoken}
-
--- ---- what is told
-
-pub quiet-is : (w : Went) (n : ℕ) (a : Answer) (p : Place) (q : Pool) (b h l s d : List ℕ) (o : Outcome None Lent)
-    → w ≡ went n 0 0 0 p q → n ≡ numberOf a → outcome (numberOf a) tt (lent (dev b h p) (bufs q l s d)) ≡ o
-    → told (w .number) (w .x) (w .y) (w .z) (lent (dev b h (w .place)) (bufs (w .pool) l s d)) ≡ quiet o
-quiet-is w n a p q b h l s d o e f g = rw (e, f) (ap quiet g)
-
-pub made-is : (w : Went) (n : ℕ) (a : Answer) (p : Place) (q q₀ : Pool) (b h l s d d₀ : List ℕ) (o : Outcome None Bufs)
-    → w ≡ went n 0 0 0 p q → n ≡ numberOf a → outcome (numberOf a) tt (bufs q l s d) ≡ o
-    → told (w .number) (w .x) (w .y) (w .z) (lent (dev b h (w .place)) (bufs (w .pool) l s d)) ≡ made (lent (dev b h p) (bufs q₀ l s d₀)) o
-made-is w n a p q q₀ b h l s d d₀ o e f g = rw (e, f) (ap (made (lent (dev b h p) (bufs q₀ l s d₀))) g)
-
-module _ (n : ℕ) (a : Answer) (e : n ≡ numberOf a) (l : Lent) where
-  pub listed-is : (x : ℕ) (buf : List ℕ) (o : Outcome ℕ (List ℕ)) → outcome (numberOf a) x buf ≡ o → called (told n x 0 0 l) buf ≡ listed l o
-  listed-is x buf o f = rw e (ap (listed l) f)
-
-  pub found-is : (x : ℕ) (y : Bool) (o : Outcome Bool None) → x ≡ bit y → outcome (numberOf a) y tt ≡ o → told n x 0 0 l ≡ found l o
-  found-is x y o g f = rw (e, g) (ap (found l) f)
-
-  pub described-is : (k x : ℕ) (y : Bool) (o : Outcome About None) → x ≡ bit y → outcome (numberOf a) (about k y) tt ≡ o → told n k x 0 l ≡ described l o
-  described-is k x y o g f = rw (e, g) (ap (described l) f)
+use Rattle.writer.specs.Writer.{Shown, pours}
+use Rattle.writer.specs.Laws.{after-pours}
+use Rattle.calls.specs.declared.Call.{Call}
+use Rattle.calls.specs.declared.Call.the-variants.{Mount, Adopt, OpenWrite, OpenRead, ReadAt, WriteAt, SetLen, FileLen, Sync, Metadata}
+use Rattle.calls.specs.declared.Reply.{Reply}
+use Rattle.calls.specs.Calls.{Told, Called, called}
+use Rattle.dispatch.specs.Dispatch.{callP}
+use Rattle.operate.specs.Operate.{bit, onHandle, onPath, callOf, answerM, room, saidOf, opM, reached, spoken}
 
 -- ---- the rows
 
-module _ (s plan : List ℕ) (g : Geometry) (o : Op) (buf : List ℕ) (l : Lent) where
-  pub is-sync-dir : o .code ≡ 10 → called (quiet (syncDirP plan g (part s (o .first)) l)) buf ≡ directoriesM s plan g o buf l
-  unfolding directoriesM
-  is-sync-dir h = rw (eq-eqb _ _ h)
+module _ (o : Op) where
+  pub is-read : o .code ≡ 5 → ReadAt (o .slot) (o .generation) (o .at) ≡ onHandle o
+  unfolding onHandle
+  is-read h = rw (eq-eqb _ _ h)
 
-  module _ (a : o .code ≡ 10 → ⊥) where
-    pub is-create : o .code ≡ 13 → called (made l (createDirAllP (part s (o .first)) (l .bufs))) buf ≡ directoriesM s plan g o buf l
-    unfolding directoriesM
-    is-create h = rw (ne-eqb _ _ a, eq-eqb _ _ h)
+  module _ (a : o .code ≡ 5 → ⊥) where
+    pub is-write : o .code ≡ 6 → WriteAt (o .slot) (o .generation) (o .at) ≡ onHandle o
+    unfolding onHandle
+    is-write h = rw (ne-eqb _ _ a, eq-eqb _ _ h)
 
-    module _ (b : o .code ≡ 13 → ⊥) where
-      pub is-read-dir : o .code ≡ 14 → listed l (readDirP (part s (o .first)) buf (l .bufs)) ≡ directoriesM s plan g o buf l
-      unfolding directoriesM
-      is-read-dir h = rw (ne-eqb _ _ a, ne-eqb _ _ b, eq-eqb _ _ h)
+    module _ (b : o .code ≡ 6 → ⊥) where
+      pub is-set-len : o .code ≡ 7 → SetLen (o .slot) (o .generation) (o .at) ≡ onHandle o
+      unfolding onHandle
+      is-set-len h = rw (ne-eqb _ _ a, ne-eqb _ _ b, eq-eqb _ _ h)
 
-      module _ (c : o .code ≡ 14 → ⊥) where
-        pub is-exists : o .code ≡ 15 → called (found l (existsP (part s (o .first)) (l .bufs))) buf ≡ directoriesM s plan g o buf l
-        unfolding directoriesM
-        is-exists h = rw (ne-eqb _ _ a, ne-eqb _ _ b, ne-eqb _ _ c, eq-eqb _ _ h)
+      module _ (c : o .code ≡ 7 → ⊥) where
+        pub is-file-len : o .code ≡ 8 → FileLen (o .slot) (o .generation) ≡ onHandle o
+        unfolding onHandle
+        is-file-len h = rw (ne-eqb _ _ a, ne-eqb _ _ b, ne-eqb _ _ c, eq-eqb _ _ h)
 
-        pub is-metadata : (o .code ≡ 15 → ⊥) → called (described l (metadataP (part s (o .first)) (l .bufs))) buf ≡ directoriesM s plan g o buf l
-        unfolding directoriesM
-        is-metadata h = rw (ne-eqb _ _ a, ne-eqb _ _ b, ne-eqb _ _ c, ne-eqb _ _ h)
+        pub is-sync : (o .code ≡ 8 → ⊥) → Sync (o .slot) (o .generation) ≡ onHandle o
+        unfolding onHandle
+        is-sync h = rw (ne-eqb _ _ a, ne-eqb _ _ b, ne-eqb _ _ c, ne-eqb _ _ h)
 
-  pub is-opening : o .code ≤ 3 → called (openingM s plan g o l) buf ≡ frontM s plan g o buf l
-  unfolding frontM
-  is-opening h = rw (le-leb _ _ h)
+-- none of the codes before
+pub is-metadata : (k : ℕ) → (k ≡ 10 → ⊥) → (k ≡ 11 → ⊥) → (k ≡ 12 → ⊥) → (k ≡ 13 → ⊥) → (k ≡ 14 → ⊥) → (k ≡ 15 → ⊥) → Metadata ≡ onPath k
+unfolding onPath
+is-metadata k a b c d e f = rw (ne-eqb _ _ a, ne-eqb _ _ b, ne-eqb _ _ c, ne-eqb _ _ d, ne-eqb _ _ e, ne-eqb _ _ f)
 
-  pub is-reading : 3 < o .code → readingM s plan g o buf l ≡ frontM s plan g o buf l
-  unfolding frontM
-  is-reading h = rw (lt-leb _ _ h)
+module _ (o : Op) where
+  pub is-mount : o .code ≡ 1 → Mount (o .n) ≡ callOf o
+  unfolding callOf
+  is-mount h = rw (eq-eqb _ _ h)
 
-  pub is-handling : o .code ≤ 9 → called (handlingM s plan g o l) buf ≡ backM s plan g o buf l
-  unfolding backM
-  is-handling h = rw (le-leb _ _ h)
+  module _ (a : o .code ≡ 1 → ⊥) where
+    pub is-adopt : o .code ≡ 2 → Adopt (o .n) ≡ callOf o
+    unfolding callOf
+    is-adopt h = rw (ne-eqb _ _ a, eq-eqb _ _ h)
 
-  pub is-moving : (t : Bool) → 9 < o .code → t ≡ isMove (o .code) → t ≡ true → called (movingM s plan g o l) buf ≡ backM s plan g o buf l
-  unfolding backM
-  is-moving t h e u = rw (lt-leb _ _ h, ← e, u)
+    module _ (b : o .code ≡ 2 → ⊥) where
+      pub is-open-write : o .code ≡ 3 → OpenWrite (not (eqb (o .n) 0)) ≡ callOf o
+      unfolding callOf
+      is-open-write h = rw (ne-eqb _ _ a, ne-eqb _ _ b, eq-eqb _ _ h)
 
-  pub is-directories : (t : Bool) → 9 < o .code → t ≡ isMove (o .code) → t ≡ false → directoriesM s plan g o buf l ≡ backM s plan g o buf l
-  unfolding backM
-  is-directories t h e u = rw (lt-leb _ _ h, ← e, u)
+      module _ (c : o .code ≡ 3 → ⊥) where
+        pub is-open-read : o .code ≡ 4 → OpenRead ≡ callOf o
+        unfolding callOf
+        is-open-read h = rw (ne-eqb _ _ a, ne-eqb _ _ b, ne-eqb _ _ c, eq-eqb _ _ h)
 
-  pub is-front : o .code ≤ 5 → frontM s plan g o buf l ≡ callM s plan g o buf l
-  unfolding callM
-  is-front h = rw (le-leb _ _ h)
+        module _ (d : o .code ≡ 4 → ⊥) where
+          pub is-on-handle : o .code ≤ 9 → onHandle o ≡ callOf o
+          unfolding callOf
+          is-on-handle h = rw (ne-eqb _ _ a, ne-eqb _ _ b, ne-eqb _ _ c, ne-eqb _ _ d, le-leb _ _ h)
 
-  pub is-back : 5 < o .code → backM s plan g o buf l ≡ callM s plan g o buf l
-  unfolding callM
-  is-back h = rw (lt-leb _ _ h)
+          pub is-on-path : 9 < o .code → onPath (o .code) ≡ callOf o
+          unfolding callOf
+          is-on-path h = rw (ne-eqb _ _ a, ne-eqb _ _ b, ne-eqb _ _ c, ne-eqb _ _ d, lt-leb _ _ h)
+
+-- the call that was read is the operation's
+pub asked : (plan : List ℕ) (g : Geometry) (o : Op) (k : Call) (one two buf : List ℕ) (l : Lent) (x : Called) → k ≡ callOf o → x ≡ callP plan g k one two buf l
+    → x ≡ callP plan g (callOf o) one two buf l
+asked plan g o k one two buf l x e f = f ∙ ap (λ (j : Call). callP plan g j one two buf l) e
 
 -- ---- the answer
 
-pub answer-is : (o : Op) (f : Form) (n x y z : ℕ) (buf : List ℕ) → f ≡ formOf (o .code) → le 1 n ++ le (f .x) x ++ le (f .y) y ++ le (f .z) z ++ buf ≡ answerM o n x y z buf
+-- of the reply's numbers, each as it was put out
+pub answer-is : (o : Op) (f : Form) (r : Reply) (n k : ℕ) (buf : List ℕ) → f ≡ formOf (o .code) → n ≡ numberOf (r .answer) → k ≡ bit (r .yes)
+    → le 1 n ++ le (f .«gives_slot») (r .slot) ++ le (f .«gives_generation») (r .generation) ++ le (f .«gives_len») (r .len) ++ le (f .«gives_count») (r .count)
+    ++ le (f .«gives_yes») k ++ buf
+    ≡ answerM o (numberOf (r .answer)) (r .slot) (r .generation) (r .len) (r .count) (r .yes) buf
 unfolding answerM
-answer-is o f n x y z buf e = rw e
+answer-is o f r n k buf e en ek = rw (e, en, ek)
+
+-- a number takes at most 8 bytes
+pub near : (w x : ℕ) (o : Shown) {o′ : Shown} → w ≤ 8 → o′ ≡ pours (le w x) o → o′ .at ≤ o .at + 8
+near w x o h e = omega (arith, after-pours (le w x) o e, length-le w x)
 
 pub room-is : (o : Op) (f : Form) → f ≡ formOf (o .code) → f .n ≡ 2 → o .n ≡ room o
 unfolding room
@@ -132,13 +127,13 @@ fresh-front n m x w e h =
     ap (take n) (e ∙ ap (λ (j : ℕ). replicate j x) (sym k) ∙ sym (replicate-append-replicate n (m - n) x)) ∙ take-at (replicate n x) (replicate (m - n) x) n (length-replicate n x)
 
 -- the call, and its answer put out
-pub step-is : (s plan : List ℕ) (g : Geometry) (o : Op) (l l′ : Lent) (n x y z : ℕ) (buf buf₀ : List ℕ) (t t′ : Shown)
-    → called (told n x y z l′) buf ≡ callM s plan g o buf₀ l → buf₀ ≡ replicate (room o) 170 → t′ ≡ pours (answerM o n x y z buf) t
-    → reached t′ l′ ≡ spoken (opM s plan g o l) t
+pub step-is : (s plan : List ℕ) (g : Geometry) (o : Op) (l : Lent) (t′ : Told) (buf buf₀ : List ℕ) (x x′ : Shown)
+    → called t′ buf ≡ callP plan g (callOf o) (part s (o .first)) (part s (o .second)) buf₀ l → buf₀ ≡ replicate (room o) 170
+    → x′ ≡ pours (saidOf o (called t′ buf) .answer) x → reached x′ (t′ .left) ≡ spoken (opM s plan g o l) x
 unfolding opM spoken
-step-is s plan g o l l′ n x y z buf buf₀ t t′ e f h =
-    ap (λ (u : Shown). reached u l′) h
-    ∙ ap (λ (c : Called). spoken (saidOf o c) t) (e ∙ ap (λ (b : List ℕ). callM s plan g o b l) f)
+step-is s plan g o l t′ buf buf₀ x x′ e f h =
+    ap (λ (u : Shown). reached u (t′ .left)) h
+    ∙ ap (λ (c : Called). spoken (saidOf o c) x) (e ∙ ap (λ (b : List ℕ). callP plan g (callOf o) (part s (o .first)) (part s (o .second)) b l) f)
 
 pub fresh-length : (m x : ℕ) (w : List ℕ) → w ≡ replicate m x → length w ≡ m
 fresh-length m x w e = ap length e ∙ length-replicate m x

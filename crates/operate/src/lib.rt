@@ -1,6 +1,8 @@
-// One operation of a script (docs/EXPORTS.md): its public call, by the code, and its answer, which goes to the output. A refused call answers its
-// number and as many bytes as any other. The caller has seen that the operation is whole and its runs lie inside of the script.
-use calls::Went;
+// One operation of a script (docs/EXPORTS.md): the call that its code stands for, made through the pool's face of records, and its answer, which goes to
+// the output. A refused call answers its number and as many bytes as any other. The caller has seen that the operation is whole and its runs lie inside
+// of the script.
+use calls::Call;
+use calls::Reply;
 use device::Geometry;
 use device::Place;
 use reader::Op;
@@ -11,10 +13,13 @@ ghost use lib.ListN.{length, replicate};
 ghost use Rattle.device.specs.Device.{dev};
 ghost use Rattle.table.specs.State.{bufs};
 ghost use Rattle.steps.specs.World.{lent};
+ghost use Rattle.gate.specs.Answers.{numberOf};
+ghost use Rattle.reader.specs.Format.{part};
 ghost use Rattle.reader.specs.Laws.{Held};
 ghost use Rattle.writer.specs.Writer.{shown, pours};
-ghost use Rattle.calls.specs.Calls.{told, called};
-ghost use Rattle.operate.specs.Operate.{bit, isMove, directoriesM, frontM, backM, callM, answerM, room, opM, reached, spoken};
+ghost use Rattle.calls.specs.Calls.{replied, called};
+ghost use Rattle.dispatch.specs.Dispatch.{callP};
+ghost use Rattle.operate.specs.Operate.{bit, onHandle, onPath, callOf, answerM, room, opM, reached, spoken};
 
 // The place and the record after an operation, and how much was put out.
 pub struct Ran {
@@ -23,128 +28,111 @@ pub struct Ran {
     pub at: usize,
 }
 
-fn bit(b: bool) -> u64
-    ensures { λ r. ⌜ r ≡ bit b ⌝ }
+// ---- the call
+
+// Codes 5 to 9: read, write, set_len, file_len, sync.
+fn on_handle(op: Op) -> Call
+    ensures { λ r. ⌜ r ≡ onHandle op ⌝ }
 {
-    if b { 1 } else { 0 }
+    let code = op.code;
+    if code == 5 {
+        return Call::ReadAt {
+            slot: op.slot,
+            generation: op.generation,
+            at: op.at,
+        };
+    }
+    if code == 6 {
+        return Call::WriteAt {
+            slot: op.slot,
+            generation: op.generation,
+            at: op.at,
+        };
+    }
+    if code == 7 {
+        return Call::SetLen {
+            slot: op.slot,
+            generation: op.generation,
+            len: op.at,
+        };
+    }
+    if code == 8 {
+        return Call::FileLen {
+            slot: op.slot,
+            generation: op.generation,
+        };
+    }
+    Call::Sync {
+        slot: op.slot,
+        generation: op.generation,
+    }
 }
 
-// sync_dir, create_dir_all, read_dir, exists, metadata.
-fn directories(
+// Codes from 10 on: sync_dir, rename, remove, create_dir_all, read_dir, exists, metadata.
+fn on_path(op: Op) -> Call
+    ensures { λ r. ⌜ r ≡ onPath (op .code) ⌝ }
+{
+    let code = op.code;
+    match code {
+        10 => Call::SyncDir,
+        11 => Call::Rename,
+        12 => Call::RemoveFile,
+        13 => Call::CreateDirAll,
+        14 => Call::ReadDir,
+        15 => Call::Exists,
+        _ => Call::Metadata,
+    }
+}
+
+// The call of an operation.
+fn call_of(op: Op) -> Call
+    ensures { λ r. ⌜ r ≡ callOf op ⌝ }
+{
+    let code = op.code;
+    if code == 1 {
+        return Call::Mount { slots: op.n };
+    }
+    if code == 2 {
+        return Call::Adopt { slots: op.n };
+    }
+    if code == 3 {
+        return Call::OpenWrite { keep: op.n != 0 };
+    }
+    if code == 4 {
+        return Call::OpenRead;
+    }
+    if code <= 9 {
+        return on_handle(op);
+    }
+    on_path(op)
+}
+
+// Makes the call of an operation, which is handed this buffer.
+fn ask(
     bytes: &mut [u8],
     phys: &mut [u64],
     geometry: Geometry,
     plan: &[u8],
     place: Place,
     nums: &mut [u64],
-    names: &[u8],
+    names: &mut [u8],
     dirs: &mut [u8],
     pool: Pool,
     script: &[u8],
     op: Op,
     buf: &mut [u8],
-) -> Went
+) -> Reply
     requires { ⌜ Held (now script) op ⌝ }
-    ensures { λ r. ⌜ called (told (r .number) (r .x) (r .y) (r .z) (lent (dev (now (bytes .exit)) (now (phys .exit)) (r .place)) (bufs (r .pool) (now (nums .exit)) (now (names .entry)) (now (dirs .exit))))) (now (buf .exit)) ≡ directoriesM (now (script .entry)) (now (plan .entry)) geometry op (now (buf .entry)) (lent (dev (now (bytes .entry)) (now (phys .entry)) place) (bufs pool (now (nums .entry)) (now (names .entry)) (now (dirs .entry)))) ⌝ }
+    ensures { λ r. ⌜ called (replied r (now (bytes .exit)) (now (phys .exit)) (now (nums .exit)) (now (names .exit)) (now (dirs .exit))) (now (buf .exit)) ≡ callP (now (plan .entry)) geometry (callOf op) (part (now (script .entry)) (op .first)) (part (now (script .entry)) (op .second)) (now (buf .entry)) (lent (dev (now (bytes .entry)) (now (phys .entry)) place) (bufs pool (now (nums .entry)) (now (names .entry)) (now (dirs .entry)))) ⌝ }
 {
-    let code = op.code;
+    let call = call_of(op);
     let first = op.first;
     let a = first.from;
     let e = first.to;
-    if code == 10 {
-        let r = folder::sync_dir(
-            bytes,
-            phys,
-            geometry,
-            plan,
-            place,
-            nums,
-            names,
-            dirs,
-            pool,
-            &script[a..e],
-        );
-        let answer = r.answer;
-        let after = r.place;
-        return calls::quiet(gate::number(answer), after, pool);
-    }
-    if code == 13 {
-        let r = folder::create_dir_all(nums, names, dirs, pool, &script[a..e]);
-        let answer = r.answer;
-        let left = r.pool;
-        return calls::quiet(gate::number(answer), place, left);
-    }
-    if code == 14 {
-        let r = folder::read_dir(nums, names, dirs, pool, &script[a..e], buf);
-        let answer = r.answer;
-        return Went {
-            number: gate::number(answer),
-            x: r.size as u64,
-            y: 0,
-            z: 0,
-            place: place,
-            pool: pool,
-        };
-    }
-    if code == 15 {
-        let r = folder::exists(nums, names, dirs, pool, &script[a..e]);
-        let answer = r.answer;
-        return Went {
-            number: gate::number(answer),
-            x: bit(r.yes),
-            y: 0,
-            z: 0,
-            place: place,
-            pool: pool,
-        };
-    }
-    let r = folder::metadata(nums, names, dirs, pool, &script[a..e]);
-    let answer = r.answer;
-    Went {
-        number: gate::number(answer),
-        x: r.len,
-        y: bit(r.is_dir),
-        z: 0,
-        place: place,
-        pool: pool,
-    }
-}
-
-// The operations of codes 1 to 5.
-fn front(
-    bytes: &mut [u8],
-    phys: &mut [u64],
-    geometry: Geometry,
-    plan: &[u8],
-    place: Place,
-    nums: &mut [u64],
-    names: &mut [u8],
-    dirs: &mut [u8],
-    pool: Pool,
-    script: &[u8],
-    op: Op,
-    buf: &mut [u8],
-) -> Went
-    requires { ⌜ Held (now script) op ⌝ }
-    ensures { λ r. ⌜ called (told (r .number) (r .x) (r .y) (r .z) (lent (dev (now (bytes .exit)) (now (phys .exit)) (r .place)) (bufs (r .pool) (now (nums .exit)) (now (names .exit)) (now (dirs .exit))))) (now (buf .exit)) ≡ frontM (now (script .entry)) (now (plan .entry)) geometry op (now (buf .entry)) (lent (dev (now (bytes .entry)) (now (phys .entry)) place) (bufs pool (now (nums .entry)) (now (names .entry)) (now (dirs .entry)))) ⌝ }
-{
-    let code = op.code;
-    if code <= 3 {
-        return calls::opening(
-            bytes,
-            phys,
-            geometry,
-            plan,
-            place,
-            nums,
-            names,
-            dirs,
-            pool,
-            script,
-            op,
-        );
-    }
-    calls::reading(
+    let second = op.second;
+    let b = second.from;
+    let f = second.to;
+    bridge::on_numbers(
         bytes,
         phys,
         geometry,
@@ -154,152 +142,36 @@ fn front(
         names,
         dirs,
         pool,
-        script,
-        op,
-        buf,
-    )
-}
-
-// Whether the code is rename's or remove's.
-fn moves(code: usize) -> bool
-    ensures { λ r. ⌜ r ≡ isMove code ⌝ }
-{
-    if code == 11 {
-        return true;
-    }
-    code == 12
-}
-
-// The operations of codes above 5.
-fn back(
-    bytes: &mut [u8],
-    phys: &mut [u64],
-    geometry: Geometry,
-    plan: &[u8],
-    place: Place,
-    nums: &mut [u64],
-    names: &mut [u8],
-    dirs: &mut [u8],
-    pool: Pool,
-    script: &[u8],
-    op: Op,
-    buf: &mut [u8],
-) -> Went
-    requires { ⌜ Held (now script) op ⌝ }
-    ensures { λ r. ⌜ called (told (r .number) (r .x) (r .y) (r .z) (lent (dev (now (bytes .exit)) (now (phys .exit)) (r .place)) (bufs (r .pool) (now (nums .exit)) (now (names .exit)) (now (dirs .exit))))) (now (buf .exit)) ≡ backM (now (script .entry)) (now (plan .entry)) geometry op (now (buf .entry)) (lent (dev (now (bytes .entry)) (now (phys .entry)) place) (bufs pool (now (nums .entry)) (now (names .entry)) (now (dirs .entry)))) ⌝ }
-{
-    let code = op.code;
-    if code <= 9 {
-        return calls::handling(
-            bytes,
-            phys,
-            geometry,
-            plan,
-            place,
-            nums,
-            names,
-            dirs,
-            pool,
-            script,
-            op,
-        );
-    }
-    if moves(code) {
-        return calls::moving(
-            bytes,
-            phys,
-            geometry,
-            plan,
-            place,
-            nums,
-            names,
-            dirs,
-            pool,
-            script,
-            op,
-        );
-    }
-    directories(
-        bytes,
-        phys,
-        geometry,
-        plan,
-        place,
-        nums,
-        names,
-        dirs,
-        pool,
-        script,
-        op,
-        buf,
-    )
-}
-
-// The call of an operation, which is handed this buffer.
-fn call(
-    bytes: &mut [u8],
-    phys: &mut [u64],
-    geometry: Geometry,
-    plan: &[u8],
-    place: Place,
-    nums: &mut [u64],
-    names: &mut [u8],
-    dirs: &mut [u8],
-    pool: Pool,
-    script: &[u8],
-    op: Op,
-    buf: &mut [u8],
-) -> Went
-    requires { ⌜ Held (now script) op ⌝ }
-    ensures { λ r. ⌜ called (told (r .number) (r .x) (r .y) (r .z) (lent (dev (now (bytes .exit)) (now (phys .exit)) (r .place)) (bufs (r .pool) (now (nums .exit)) (now (names .exit)) (now (dirs .exit))))) (now (buf .exit)) ≡ callM (now (script .entry)) (now (plan .entry)) geometry op (now (buf .entry)) (lent (dev (now (bytes .entry)) (now (phys .entry)) place) (bufs pool (now (nums .entry)) (now (names .entry)) (now (dirs .entry)))) ⌝ }
-{
-    let code = op.code;
-    if code <= 5 {
-        return front(
-            bytes,
-            phys,
-            geometry,
-            plan,
-            place,
-            nums,
-            names,
-            dirs,
-            pool,
-            script,
-            op,
-            buf,
-        );
-    }
-    back(
-        bytes,
-        phys,
-        geometry,
-        plan,
-        place,
-        nums,
-        names,
-        dirs,
-        pool,
-        script,
-        op,
+        call,
+        &script[a..e],
+        &script[b..f],
         buf,
     )
 }
 
 // ---- the answer
 
-// Puts out what a call came to: its number, its further numbers as wide as the table says, and the buffer.
-fn put_answer(op: Op, went: Went, buf: &[u8], out: &mut [u8], at: usize) -> usize
+fn bit(b: bool) -> u64
+    ensures { λ r. ⌜ r ≡ bit b ⌝ }
+{
+    if b { 1 } else { 0 }
+}
+
+// Puts out what a call came to: its number, what it tells, as wide as the table says, and the buffer.
+fn put_answer(op: Op, reply: Reply, buf: &[u8], out: &mut [u8], at: usize) -> usize
     requires { ⌜ (op .code < 17) × (length (now buf) < 65536) × (at < 2 ^ 62) ⌝ }
-    ensures answer { λ r. ⌜ shown (now (out .exit)) r ≡ pours (answerM op (went .number) (went .x) (went .y) (went .z) (now (buf .entry))) (shown (now (out .entry)) at) ⌝ }
+    ensures answer { λ r. ⌜ shown (now (out .exit)) r ≡ pours (answerM op (numberOf (reply .answer)) (reply .slot) (reply .generation) (reply .len) (reply .count) (reply .yes) (now (buf .entry))) (shown (now (out .entry)) at) ⌝ }
     ensures few { λ r. ⌜ r ≤ at + 65600 ⌝ }
 {
-    let f = reader::form_of(op.code);
-    let a = writer::put_le(out, at, 1, went.number as u64);
-    let b = writer::put_le(out, a, f.x, went.x);
-    let c = writer::put_le(out, b, f.y, went.y);
-    let d = writer::put_le(out, c, f.z, went.z);
-    writer::put_bytes(out, d, buf)
+    let form = reader::form_of(op.code);
+    let answer = reply.answer;
+    let a = writer::put_le(out, at, 1, gate::number(answer) as u64);
+    let b = writer::put_le(out, a, form.gives_slot, reply.slot as u64);
+    let c = writer::put_le(out, b, form.gives_generation, reply.generation);
+    let d = writer::put_le(out, c, form.gives_len, reply.len);
+    let e = writer::put_le(out, d, form.gives_count, reply.count as u64);
+    let f = writer::put_le(out, e, form.gives_yes, bit(reply.yes));
+    writer::put_bytes(out, f, buf)
 }
 
 // How long a buffer the call is handed.
@@ -343,7 +215,7 @@ pub fn step(
 {
     let mut work = fresh();
     let n = room(op);
-    let went = call(
+    let reply = ask(
         bytes,
         phys,
         geometry,
@@ -357,9 +229,9 @@ pub fn step(
         op,
         &mut work[..n],
     );
-    let after = went.place;
-    let left = went.pool;
-    let to = put_answer(op, went, &work[..n], out, at);
+    let after = reply.place;
+    let left = reply.pool;
+    let to = put_answer(op, reply, &work[..n], out, at);
     Ran {
         place: after,
         pool: left,

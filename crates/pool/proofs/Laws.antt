@@ -1,116 +1,82 @@
--- The ways out of open_read, mount and adopt, over plain values.
-use Prim.Native.Nat.{ℕ, _*_, _/_, _≤_, _<_}
+-- What the ways through the entry come to, and those of its helpers.
+use Prim.Native.Nat.{ℕ, _*_, _≤_, _<_}
 use native.Mathlib.Omega.{arith}
-use mathlib.Core.Path.{_≡_, refl, sym, ap, ap₂, _∙_}
-use mathlib.Core.Bool.{Bool, true, false, not, cond, _&&_}
-use mathlib.Core.List.{List}
-use lib.Dec.{eqb, leb}
-use lib.ListN.{length}
-use borrow.Author.Tests.{le-leb, lt-leb, eq-eqb, ne-eqb, not-true, not-false}
+use mathlib.Core.Path.{_≡_, refl, sym, ap, _∙_}
+use mathlib.Core.Bool.{Bool, true, false, cond}
+use mathlib.Core.List.{List, _++_}
+use lib.ListN.{length, take}
+use lib.Seq.{take-at, length-take-le}
+use borrow.Author.Tests.{eq-eqb, ne-eqb}
 use Rattle.device.specs.declared.Geometry.{Geometry}
-use Rattle.device.specs.Device.{Dev, Shape, shapeB}
-use Rattle.device.specs.Shape.{shape-means}
+use Rattle.device.specs.declared.Place.{Place}
+use Rattle.device.specs.Device.{dev}
+use Rattle.records.specs.declared.Slot.{Slot}
+use Rattle.records.specs.Records.{numsOf, stored, flatOf, cleared}
+use Rattle.records.specs.Laws.{length-nums, flat-front, nums-stored, nums-cleared}
 use Rattle.table.specs.declared.Pool.{Pool}
-use Rattle.table.specs.State.{State, Bufs, bufs}
-use Rattle.steps.specs.World.{Lent, lent}
-use Rattle.handles.specs.Outcome.{Outcome, outcome, None}
-use Rattle.files.specs.declared.Reader.{Reader}
-use Rattle.files.specs.Files.{openReadM}
-use Rattle.mount.specs.Mount.{Came, Done, done, flatC, mountM, zeroPool, mounted}
-use Rattle.gate.specs.declared.Answer.{Answer}
-use Rattle.gate.specs.Answers.{numberOf, answerOf}
-use Rattle.gate.proofs.Laws.{answered}
-use Rattle.pool.specs.Public.{reading, tellReader, rowsB, zeroed, unmounted, told, mountP}
-use Rattle.pool.specs.Stays.{rows-shaped}
-use Rattle.pool.proofs.Numbers.{open-read-few}
+use Rattle.table.specs.State.{bufs}
+use Rattle.steps.specs.World.{lent}
+use Rattle.mount.specs.Mount.{zeroPool}
+use Rattle.gate.specs.declared.Answer.the-variants.{NotPool, WrongShape}
+use Rattle.gate.specs.Answers.{numberOf}
+use Rattle.intake.specs.Public.{zeroed, unmounted}
+use Rattle.calls.specs.declared.Call.{Call}
+use Rattle.calls.specs.declared.Coded.{Coded}
+use Rattle.calls.specs.declared.Reply.{Reply}
+use Rattle.calls.specs.Calls.{codedOf, Called, called, told, replied, quietly}
+use Rattle.dispatch.specs.Dispatch.{callP}
+use Rattle.dispatch.specs.Laws.{isMount, crowded, many-rows}
 
--- ---- open_read
+-- ---- whether the call is a mount
 
-pub told-reader : (a : Answer) (x : Reader) (path : List ℕ) (s : State) → a ≡ answerOf (x .out) → x ≡ openReadM path s
-    → outcome (numberOf a) (reading (x .slot) (x .generation)) tt ≡ tellReader (openReadM path s)
-told-reader a x path s e q =
-    let z : x .out ≡ openReadM path s .out = ap (λ (y : Reader). y .out) q in
-    answered a (x .out) (reading (x .slot) (x .generation)) tt (tellReader (openReadM path s)) e (omega (arith, z, open-read-few path s)) (ap tellReader q)
+module _ (c : Call) (k : Coded) (e : k ≡ codedOf c) where
+  pub a-mount : k .code ≡ 1 → isMount c ≡ true
+  a-mount h = eq-eqb (codedOf c .code) 1 (ap (λ (x : Coded). x .code) (sym e) ∙ h)
 
--- ---- mount, adopt
+  pub no-mount : (k .code ≡ 1 → ⊥) → isMount c ≡ false
+  no-mount h = ne-eqb (codedOf c .code) 1 (λ z. h (ap (λ (x : Coded). x .code) e ∙ z))
 
--- the answer of an adoption, and of a mount
-told-as : (a : Answer) (n m : ℕ) (l : Lent) (x : Done) → a ≡ answerOf n → x .out ≡ m → m ≤ 13 → done n l ≡ x → outcome (numberOf a) tt l ≡ told x
-told-as a n m l x e u h q =
-    let z : n ≡ x .out = ap (λ (y : Done). y .out) q in
-    answered a n tt l (told x) e (omega (arith, z, u, h)) (ap told q)
+-- What comes of a choice that is settled.
+pub chosen : {A : Type 0} (t : Bool) (x y z : A) → t ≡ true → z ≡ x → z ≡ cond t x y
+chosen t x y z h e = rw h e
 
-pub told-adopted : (a : Answer) (n : ℕ) (l : Lent) (x : Came) → a ≡ answerOf n → x .out ≤ 13 → done n l ≡ flatC x → outcome (numberOf a) tt l ≡ told (flatC x)
-told-adopted a n l x e h q = told-as a n (x .out) l (flatC x) e refl h q
+pub other : {A : Type 0} (t : Bool) (x y z : A) → t ≡ false → z ≡ y → z ≡ cond t x y
+other t x y z h e = rw h e
 
-pub told-mounted : (a : Answer) (n : ℕ) (l : Lent) (x : Came) → a ≡ answerOf n → x .out ≤ 13 → done n l ≡ mounted x → outcome (numberOf a) tt l ≡ told (mounted x)
-unfolding mounted
-told-mounted a n l x e h q = told-as a n (x .out) l (mounted x) e refl h q
+-- ---- over the front of the numbers
 
--- how the test of the rows goes
-module _ (l n s : List ℕ) where
-  pub rows-many : 64 < length l / 4 → false ≡ rowsB l n s
-  unfolding rowsB
-  rows-many h = let z = lt-leb (length l / 4) 64 h in rw z
+-- A call that was lent the first k numbers m of l, with x behind them.
+pub on-front : (r : Reply) (b h m x s d buf l : List ℕ) (k : ℕ) (t : Called) → k ≤ length l → length m ≡ length (take k l) → called (replied r b h m s d) buf ≡ t → called (replied r b h (take k (m ++ x)) s d) buf ≡ t
+on-front r b h m x s d buf l k t n e f = ap (λ (y : List ℕ). called (replied r b h y s d) buf) (take-at m x k (e ∙ length-take-le k l n)) ∙ f
 
-  module _ (h : length l / 4 ≤ 64) where
-    small : leb (length l / 4) 64 ≡ true
-    small = le-leb (length l / 4) 64 h
+-- ---- the two ways of the entry
 
-    pub dirs-many : 256 < length s / 482 → false ≡ rowsB l n s
-    unfolding rowsB
-    dirs-many k = let z = lt-leb (length s / 482) 256 k in rw (small, z)
+-- At most 64 records: z are the numbers that the call was lent, m those that it left, and f what it comes to.
+pub few-rows : (f : List ℕ → Called) (r : Reply) (b h s d x : List ℕ) (rs rs₁ : List Slot) (z m : List ℕ) → length rs ≤ 64 → z ≡ flatOf rs → length m ≡ 256 → rs₁ ≡ stored m rs
+    → called (replied r b h (take (length rs * 4) m) s d) x ≡ f (take (length rs * 4) z) → called (replied r b h (numsOf rs₁) s d) x ≡ f (numsOf rs)
+few-rows f r b h s d x rs rs₁ z m few ez em er e =
+    ap (λ (y : List ℕ). called (replied r b h y s d) x) (ap numsOf er ∙ nums-stored m rs (omega arith)) ∙ e ∙ ap f (ap (take (length rs * 4)) ez ∙ flat-front rs few)
 
-    module _ (k : length s / 482 ≤ 256) where
-      dirs-small : leb (length s / 482) 256 ≡ true
-      dirs-small = le-leb (length s / 482) 256 k
+-- More: k of them were made zero.
+module _ (c : Call) (n k : ℕ) (e : k ≡ cond (isMount c) n 0) where
+  pub lost-fits : k ≤ n
+  lost-fits = go (isMount c) e
+    where
+      go : (t : Bool) → k ≡ cond t n 0 → k ≤ n
+      go true z = omega arith
+      go false z = omega arith
 
-      pub nums-cut : (length l ≡ length l / 4 * 4 → ⊥) → false ≡ rowsB l n s
-      unfolding rowsB
-      nums-cut ne = let z = ne-eqb (length l) (length l / 4 * 4) ne in rw (small, dirs-small, z)
+crowd : (t : Bool) (r : Reply) (b h s₁ d₁ x s d : List ℕ) (p : Place) (q : Pool) (rs rs₁ : List Slot) (k : ℕ) → k ≡ cond t (length rs) 0 → rs₁ ≡ cleared k rs
+    → r ≡ cond t (quietly WrongShape p zeroPool) (quietly NotPool p q) → s₁ ≡ cond t (zeroed s) s → d₁ ≡ cond t (zeroed d) d
+    → called (replied r b h (numsOf rs₁) s₁ d₁) x ≡ cond t (called (told 2 0 0 0 0 false (lent (dev b h p) (unmounted (numsOf rs) s d))) x) (called (told 1 0 0 0 0 false (lent (dev b h p) (bufs q (numsOf rs) s d))) x)
+unfolding numberOf cleared
+crowd true r b h s₁ d₁ x s d p q rs rs₁ k ek er e es ed = rw (e, es, ed, er, ek) (ap (λ (y : List ℕ). called (told 2 0 0 0 0 false (lent (dev b h p) (bufs zeroPool y (zeroed s) (zeroed d)))) x) (nums-cleared rs))
+crowd false r b h s₁ d₁ x s d p q rs rs₁ k ek er e es ed = rw (e, es, ed, er, ek) refl
 
-      module _ (e : length l ≡ length l / 4 * 4) where
-        nums-whole : eqb (length l) (length l / 4 * 4) ≡ true
-        nums-whole = eq-eqb (length l) (length l / 4 * 4) e
-
-        pub names-differ : (length n ≡ length l / 4 * 480 → ⊥) → false ≡ rowsB l n s
-        unfolding rowsB
-        names-differ ne = let z = ne-eqb (length n) (length l / 4 * 480) ne in rw (small, dirs-small, nums-whole, z)
-
-        pub names-agree : length n ≡ length l / 4 * 480 → eqb (length s) (length s / 482 * 482) ≡ rowsB l n s
-        unfolding rowsB
-        names-agree q = let z = eq-eqb (length n) (length l / 4 * 480) q in rw (small, dirs-small, nums-whole, z)
-
-zero-bufs : (q : Pool) (l n s l₁ n₁ s₁ : List ℕ) → q ≡ zeroPool → l₁ ≡ zeroed l → n₁ ≡ zeroed n → s₁ ≡ zeroed s → bufs q l₁ n₁ s₁ ≡ unmounted l n s
-zero-bufs q l n s l₁ n₁ s₁ e x y z =
-    ap₂ (λ (p : Pool) (a : List ℕ). bufs p a n₁ s₁) e x ∙ ap₂ (λ (a b : List ℕ). bufs zeroPool (zeroed l) a b) y z
-
-module _ (plan : List ℕ) (g : Geometry) (k : ℕ) (d : Dev) (l n s : List ℕ) (t : Bool) (e : t ≡ shapeB g (d .bytes) (d .phys)) where
-  module _ (q : Pool) (l₁ n₁ s₁ : List ℕ) (eq : q ≡ zeroPool) (x : l₁ ≡ zeroed l) (y : n₁ ≡ zeroed n) (z : s₁ ≡ zeroed s) where
-    refused : outcome {R = None} 2 tt (lent d (bufs q l₁ n₁ s₁)) ≡ outcome 2 tt (lent d (unmounted l n s))
-    refused = ap (λ (b : Bufs). outcome {R = None} 2 tt (lent d b)) (zero-bufs q l n s l₁ n₁ s₁ eq x y z)
-
-    pub no-device : not t ≡ true → outcome 2 tt (lent d (bufs q l₁ n₁ s₁)) ≡ mountP plan g k d l n s
-    unfolding mountP
-    no-device h = let w : shapeB g (d .bytes) (d .phys) ≡ false = sym e ∙ not-true t h in rw w refused
-
-    pub no-rows : not t ≡ false → (u : Bool) → u ≡ rowsB l n s → not u ≡ true → outcome 2 tt (lent d (bufs q l₁ n₁ s₁)) ≡ mountP plan g k d l n s
-    unfolding mountP
-    no-rows h u f i =
-        let w : shapeB g (d .bytes) (d .phys) ≡ true = sym e ∙ not-false t h in
-        let v : rowsB l n s ≡ false = sym f ∙ not-true u i in
-        rw (w, v) refused
-
-  module _ (h : not t ≡ false) (u : Bool) (f : u ≡ rowsB l n s) (i : not u ≡ false) where
-    pub mountable : (Shape g (d .bytes) (d .phys) × (length l / 4 ≤ 64) × (length s / 482 ≤ 256))
-        × ((length l ≡ length l / 4 * 4) × (length n ≡ length l / 4 * 480) × (length s ≡ length s / 482 * 482))
-    mountable =
-        let r = rows-shaped l n s (sym f ∙ not-false u i) in
-        ((shape-means g (d .bytes) (d .phys) .0 (sym e ∙ not-false t h), r .0 .0, r .0 .1), r .1)
-
-    pub mounts : (o : Outcome None Lent) → o ≡ told (mounted (mountM plan g (length l / 4) (length s / 482) k d)) → o ≡ mountP plan g k d l n s
-    unfolding mountP
-    mounts o q =
-        let w : shapeB g (d .bytes) (d .phys) ≡ true = sym e ∙ not-false t h in
-        let v : rowsB l n s ≡ true = sym f ∙ not-false u i in
-        rw (w, v) q
+pub many-rows-are : (plan : List ℕ) (g : Geometry) (c : Call) (one two : List ℕ) (r : Reply) (b h s₁ d₁ x s d : List ℕ) (p : Place) (q : Pool) (rs rs₁ : List Slot) (k : ℕ) → 64 < length rs → k ≡ cond (isMount c) (length rs) 0 → rs₁ ≡ cleared k rs
+    → r ≡ cond (isMount c) (quietly WrongShape p zeroPool) (quietly NotPool p q) → s₁ ≡ cond (isMount c) (zeroed s) s → d₁ ≡ cond (isMount c) (zeroed d) d
+    → called (replied r b h (numsOf rs₁) s₁ d₁) x ≡ callP plan g c one two x (lent (dev b h p) (bufs q (numsOf rs) s d))
+unfolding crowded
+many-rows-are plan g c one two r b h s₁ d₁ x s d p q rs rs₁ k many ek er e es ed =
+    let n : length (numsOf rs) ≡ length rs * 4 = length-nums rs in
+    crowd (isMount c) r b h s₁ d₁ x s d p q rs rs₁ k ek er e es ed ∙ sym (many-rows plan g c one two x (lent (dev b h p) (bufs q (numsOf rs) s d)) (omega arith))

@@ -1,404 +1,190 @@
-// The public calls of pool.rs that make, find and change files: `new` as mount, adopt_slots as adopt, open_read, open_write, rename and
-// remove_file. Any input may come: each call first sees that the record and its rows are a pool (1), that the device has its shape and a
-// slot for each that the pool holds (2), and that each path is text (3); only then the call itself is made, and the number that it came to
-// is the answer. A refused call leaves what it was lent as it was, and its other results are zero; only a refused mount leaves the record
-// and the rows zero.
+// The pool's public face: the sixteen calls over slot rows that are "a lent run of records, one row a slot". One entry loads the records into flat
+// numbers, has crate dispatch make the call on those, and stores them back. So its contract is the flat call's, with the numbers of the records at
+// entry and at exit. Any input may come. More than 64 records are no pool's: they are refused before they are loaded.
+use calls::Call;
+use calls::Reply;
 use device::Geometry;
 use device::Place;
 use gate::Answer;
+use records::Slot;
 use table::Pool;
 ghost use mathlib.Core.Path.{_≡_};
+ghost use Prim.Native.Nat.{_*_, _≤_};
+ghost use mathlib.Core.Bool.{cond};
+ghost use lib.ListN.{length, take};
 ghost use Rattle.device.specs.Device.{dev};
 ghost use Rattle.table.specs.State.{bufs};
 ghost use Rattle.steps.specs.World.{lent};
-ghost use Rattle.handles.specs.Outcome.{outcome};
-ghost use Rattle.files.specs.Files.{handle};
+ghost use Rattle.records.specs.Records.{numsOf};
+ghost use Rattle.gate.specs.declared.Answer.the-variants.{NotPool, WrongShape};
 ghost use Rattle.mount.specs.Mount.{zeroPool};
-ghost use Rattle.gate.specs.Answers.{numberOf};
-ghost use Rattle.pool.specs.Public.{rowsB, zeroed, reading, mountP, adoptP, openReadP, openWriteP, renameP, removeP};
+ghost use Rattle.intake.specs.Public.{zeroed};
+ghost use Rattle.calls.specs.Calls.{replied, called, quietly};
+ghost use Rattle.dispatch.specs.Dispatch.{callP};
+ghost use Rattle.dispatch.specs.Laws.{isMount};
 
-// The answer of mount and adopt, and the place and the record after it.
-pub struct Mounted {
-    pub answer: Answer,
-    pub place: Place,
-    pub pool: Pool,
-}
+// ---- more than 64 records
 
-// The answer of open_write, the handle and the file's length, and the place and the record after it.
-pub struct Opened {
-    pub answer: Answer,
-    pub slot: usize,
-    pub generation: u64,
-    pub len: u64,
-    pub place: Place,
-    pub pool: Pool,
-}
-
-// The answer of open_read, and the handle.
-pub struct Reader {
-    pub answer: Answer,
-    pub slot: usize,
-    pub generation: u64,
-}
-
-// The answer of rename and remove_file, and the place and the record after it.
-pub struct Changed {
-    pub answer: Answer,
-    pub place: Place,
-    pub pool: Pool,
-}
-
-// ---- mount, adopt
-
-// Whether the row buffers are so many rows each, and not too many.
-fn rows_ok(nums: &[u64], names: &[u8], dirs: &[u8]) -> bool
-    ensures { λ r. ⌜ r ≡ rowsB (now (nums .entry)) (now (names .entry)) (now (dirs .entry)) ⌝ }
+// How many of n records are made zero: all at a mount, else none.
+fn lost(call: Call, n: usize) -> usize
+    ensures { λ r. ⌜ r ≡ cond (isMount call) n 0 ⌝ }
 {
-    let cap = nums.len() / 4;
-    let dir_cap = dirs.len() / 482;
-    if 64 < cap {
-        return false;
+    let coded = calls::numbers_of(call);
+    if coded.code == 1 {
+        return n;
     }
-    if 256 < dir_cap {
-        return false;
-    }
-    if nums.len() != cap * 4 {
-        return false;
-    }
-    if names.len() != cap * 480 {
-        return false;
-    }
-    dirs.len() == dir_cap * 482
+    0
 }
 
-// Writes zeros over all rows that are lent, and gives the zero record, which is no pool.
-fn unmount(nums: &mut [u64], names: &mut [u8], dirs: &mut [u8]) -> Pool
-    ensures pool { λ r. ⌜ r ≡ zeroPool ⌝ }
-    ensures nums { λ _. ⌜ now (nums .exit) ≡ zeroed (now (nums .entry)) ⌝ }
-    ensures names { λ _. ⌜ now (names .exit) ≡ zeroed (now (names .entry)) ⌝ }
-    ensures dirs { λ _. ⌜ now (dirs .exit) ≡ zeroed (now (dirs .entry)) ⌝ }
+// The reply where there are more than 64 records: at a mount 2, and the paths and the directories are zero; else 1.
+fn too_many(place: Place, names: &mut [u8], dirs: &mut [u8], pool: Pool, call: Call) -> Reply
+    ensures reply { λ r. ⌜ r ≡ cond (isMount call) (quietly WrongShape place zeroPool) (quietly NotPool place pool) ⌝ }
+    ensures names { λ _. ⌜ now (names .exit) ≡ cond (isMount call) (zeroed (now (names .entry))) (now (names .entry)) ⌝ }
+    ensures dirs { λ _. ⌜ now (dirs .exit) ≡ cond (isMount call) (zeroed (now (dirs .entry))) (now (dirs .entry)) ⌝ }
 {
-    rows::clear_rows(nums, names);
-    let d = dirs.len();
-    rows::zero_in(dirs, 0, d);
-    Pool {
-        rows: 0,
-        dir_rows: 0,
-        held: 0,
-        dirs: 0,
-        counter: 0,
-        free: 0,
-        queue: [0u8; 64],
+    let coded = calls::numbers_of(call);
+    if coded.code == 1 {
+        let n = names.len();
+        rows::zero_in(names, 0, n);
+        let d = dirs.len();
+        rows::zero_in(dirs, 0, d);
+        let zero = Pool {
+            rows: 0,
+            dir_rows: 0,
+            held: 0,
+            dirs: 0,
+            counter: 0,
+            free: 0,
+            queue: [0u8; 64],
+        };
+        let refused = Answer::WrongShape;
+        return calls::quiet(refused, place, zero);
     }
+    let refused = Answer::NotPool;
+    calls::quiet(refused, place, pool)
 }
 
-// Mounts the first `slots` slots of the device; whatever the rows held is gone.
-pub fn mount(
+// ---- at most 64
+
+// The call over the first n rows of flat numbers.
+fn on_front(
     bytes: &mut [u8],
     phys: &mut [u64],
     geometry: Geometry,
     plan: &[u8],
     place: Place,
     nums: &mut [u64],
-    names: &mut [u8],
-    dirs: &mut [u8],
-    slots: usize,
-) -> Mounted
-    ensures { λ r. ⌜ outcome (numberOf (r .answer)) tt (lent (dev (now (bytes .exit)) (now (phys .exit)) (r .place)) (bufs (r .pool) (now (nums .exit)) (now (names .exit)) (now (dirs .exit)))) ≡ mountP (now (plan .entry)) geometry slots (dev (now (bytes .entry)) (now (phys .entry)) place) (now (nums .entry)) (now (names .entry)) (now (dirs .entry)) ⌝ }
-{
-    if !device::shape_ok(bytes, phys, geometry) {
-        let zero = unmount(nums, names, dirs);
-        return Mounted {
-            answer: Answer::WrongShape,
-            place: place,
-            pool: zero,
-        };
-    }
-    if !rows_ok(nums, names, dirs) {
-        let zero = unmount(nums, names, dirs);
-        return Mounted {
-            answer: Answer::WrongShape,
-            place: place,
-            pool: zero,
-        };
-    }
-    let cap = nums.len() / 4;
-    let dir_cap = dirs.len() / 482;
-    let done = mount::mount_rows(
-        bytes,
-        phys,
-        geometry,
-        plan,
-        place,
-        nums,
-        names,
-        dirs,
-        cap,
-        dir_cap,
-        slots,
-    );
-    let told = gate::answer_of(done.out);
-    let after = done.place;
-    let left = done.pool;
-    Mounted {
-        answer: told,
-        place: after,
-        pool: left,
-    }
-}
-
-// Takes so many more slots of the device into the pool.
-pub fn adopt(
-    bytes: &mut [u8],
-    phys: &mut [u64],
-    geometry: Geometry,
-    plan: &[u8],
-    place: Place,
-    nums: &mut [u64],
+    n: usize,
     names: &mut [u8],
     dirs: &mut [u8],
     pool: Pool,
-    slots: usize,
-) -> Mounted
-    ensures { λ r. ⌜ outcome (numberOf (r .answer)) tt (lent (dev (now (bytes .exit)) (now (phys .exit)) (r .place)) (bufs (r .pool) (now (nums .exit)) (now (names .exit)) (now (dirs .exit)))) ≡ adoptP (now (plan .entry)) geometry slots (lent (dev (now (bytes .entry)) (now (phys .entry)) place) (bufs pool (now (nums .entry)) (now (names .entry)) (now (dirs .entry)))) ⌝ }
+    call: Call,
+    first: &[u8],
+    second: &[u8],
+    buf: &mut [u8],
+) -> Reply
+    requires { ⌜ n * 4 ≤ length (now nums) ⌝ }
+    ensures { λ r. ⌜ called (replied r (now (bytes .exit)) (now (phys .exit)) (take (n * 4) (now (nums .exit))) (now (names .exit)) (now (dirs .exit))) (now (buf .exit)) ≡ callP (now (plan .entry)) geometry call (now (first .entry)) (now (second .entry)) (now (buf .entry)) (lent (dev (now (bytes .entry)) (now (phys .entry)) place) (bufs pool (take (n * 4) (now (nums .entry))) (now (names .entry)) (now (dirs .entry)))) ⌝ }
 {
-    let no = gate::admitted(bytes, phys, geometry, nums, names, dirs, pool);
-    if no != 0 {
-        let refusal = gate::answer_of(no);
-        return Mounted {
-            answer: refusal,
-            place: place,
-            pool: pool,
-        };
-    }
-    let done = mount::adopt(
+    let k = n * 4;
+    dispatch::call(
         bytes,
         phys,
         geometry,
         plan,
         place,
-        nums,
+        &mut nums[..k],
         names,
         dirs,
         pool,
-        slots,
-    );
-    let told = gate::answer_of(done.out);
-    let after = done.place;
-    let left = done.pool;
-    Mounted {
-        answer: told,
-        place: after,
-        pool: left,
-    }
+        call,
+        first,
+        second,
+        buf,
+    )
 }
 
-// ---- open_read, open_write
+// ---- the entry
 
-// The handle of a file, for reading.
-pub fn open_read(nums: &[u64], names: &[u8], dirs: &[u8], pool: Pool, path: &[u8]) -> Reader
-    ensures { λ r. ⌜ outcome (numberOf (r .answer)) (reading (r .slot) (r .generation)) tt ≡ openReadP (now (path .entry)) (bufs pool (now (nums .entry)) (now (names .entry)) (now (dirs .entry))) ⌝ }
-{
-    if !admit::pool_ok(nums, names, dirs, pool) {
-        return Reader {
-            answer: Answer::NotPool,
-            slot: 0,
-            generation: 0,
-        };
-    }
-    if !text::is_text(path) {
-        return Reader {
-            answer: Answer::NotText,
-            slot: 0,
-            generation: 0,
-        };
-    }
-    let done = files::open_read(nums, names, dirs, pool, path);
-    let told = gate::answer_of(done.out);
-    Reader {
-        answer: told,
-        slot: done.slot,
-        generation: done.generation,
-    }
-}
-
-// The handle of a file, for writing, and its length: an existing file is kept or cut to nothing, else a new one is made.
-pub fn open_write(
+// Makes the call, with the place by value.
+fn enter(
     bytes: &mut [u8],
     phys: &mut [u64],
     geometry: Geometry,
     plan: &[u8],
     place: Place,
-    nums: &mut [u64],
+    rows: &mut [Slot],
     names: &mut [u8],
     dirs: &mut [u8],
     pool: Pool,
-    path: &[u8],
-    keep: bool,
-) -> Opened
-    ensures { λ r. ⌜ outcome (numberOf (r .answer)) (handle (r .slot) (r .generation) (r .len)) (lent (dev (now (bytes .exit)) (now (phys .exit)) (r .place)) (bufs (r .pool) (now (nums .exit)) (now (names .exit)) (now (dirs .exit)))) ≡ openWriteP (now (plan .entry)) geometry (now (path .entry)) keep (lent (dev (now (bytes .entry)) (now (phys .entry)) place) (bufs pool (now (nums .entry)) (now (names .entry)) (now (dirs .entry)))) ⌝ }
+    call: Call,
+    first: &[u8],
+    second: &[u8],
+    buf: &mut [u8],
+) -> Reply
+    ensures { λ r. ⌜ called (replied r (now (bytes .exit)) (now (phys .exit)) (numsOf (now (rows .exit))) (now (names .exit)) (now (dirs .exit))) (now (buf .exit)) ≡ callP (now (plan .entry)) geometry call (now (first .entry)) (now (second .entry)) (now (buf .entry)) (lent (dev (now (bytes .entry)) (now (phys .entry)) place) (bufs pool (numsOf (now (rows .entry))) (now (names .entry)) (now (dirs .entry)))) ⌝ }
 {
-    let no = gate::admitted(bytes, phys, geometry, nums, names, dirs, pool);
-    if no != 0 {
-        let refusal = gate::answer_of(no);
-        return Opened {
-            answer: refusal,
-            slot: 0,
-            generation: 0,
-            len: 0,
-            place: place,
-            pool: pool,
-        };
+    let n = rows.len();
+    if 64 < n {
+        let k = lost(call, n);
+        records::clear(rows, k);
+        return too_many(place, names, dirs, pool, call);
     }
-    if !text::is_text(path) {
-        return Opened {
-            answer: Answer::NotText,
-            slot: 0,
-            generation: 0,
-            len: 0,
-            place: place,
-            pool: pool,
-        };
-    }
-    let done = files::open_write(
+    let mut nums = records::flat(rows);
+    let reply = on_front(
         bytes,
         phys,
         geometry,
         plan,
         place,
-        nums,
+        &mut nums,
+        n,
         names,
         dirs,
         pool,
-        path,
-        keep,
+        call,
+        first,
+        second,
+        buf,
     );
-    let told = gate::answer_of(done.out);
-    let after = done.place;
-    let left = done.pool;
-    Opened {
-        answer: told,
-        slot: done.slot,
-        generation: done.generation,
-        len: done.len,
-        place: after,
-        pool: left,
-    }
+    records::keep(rows, nums);
+    reply
 }
 
-// ---- rename, remove_file
-
-// Gives the file of `from` the path `to`.
-pub fn rename(
+// Makes the call; the place moves on.
+pub fn call(
     bytes: &mut [u8],
     phys: &mut [u64],
     geometry: Geometry,
     plan: &[u8],
-    place: Place,
-    nums: &mut [u64],
+    at: &mut Place,
+    rows: &mut [Slot],
     names: &mut [u8],
     dirs: &mut [u8],
     pool: Pool,
-    from: &[u8],
-    to: &[u8],
-) -> Changed
-    ensures { λ r. ⌜ outcome (numberOf (r .answer)) tt (lent (dev (now (bytes .exit)) (now (phys .exit)) (r .place)) (bufs (r .pool) (now (nums .exit)) (now (names .exit)) (now (dirs .exit)))) ≡ renameP (now (plan .entry)) geometry (now (from .entry)) (now (to .entry)) (lent (dev (now (bytes .entry)) (now (phys .entry)) place) (bufs pool (now (nums .entry)) (now (names .entry)) (now (dirs .entry)))) ⌝ }
+    call: Call,
+    first: &[u8],
+    second: &[u8],
+    buf: &mut [u8],
+) -> Reply
+    ensures same { λ r. ⌜ called (replied r (now (bytes .exit)) (now (phys .exit)) (numsOf (now (rows .exit))) (now (names .exit)) (now (dirs .exit))) (now (buf .exit)) ≡ callP (now (plan .entry)) geometry call (now (first .entry)) (now (second .entry)) (now (buf .entry)) (lent (dev (now (bytes .entry)) (now (phys .entry)) (now (at .entry))) (bufs pool (numsOf (now (rows .entry))) (now (names .entry)) (now (dirs .entry)))) ⌝ }
+    ensures place { λ r. ⌜ now (at .exit) ≡ r .place ⌝ }
 {
-    let no = gate::admitted(bytes, phys, geometry, nums, names, dirs, pool);
-    if no != 0 {
-        let refusal = gate::answer_of(no);
-        return Changed {
-            answer: refusal,
-            place: place,
-            pool: pool,
-        };
-    }
-    if !text::is_text(from) {
-        return Changed {
-            answer: Answer::NotText,
-            place: place,
-            pool: pool,
-        };
-    }
-    if !text::is_text(to) {
-        return Changed {
-            answer: Answer::NotText,
-            place: place,
-            pool: pool,
-        };
-    }
-    let done = renames::rename(
+    let reply = enter(
         bytes,
         phys,
         geometry,
         plan,
-        place,
-        nums,
+        *at,
+        rows,
         names,
         dirs,
         pool,
-        from,
-        to,
+        call,
+        first,
+        second,
+        buf,
     );
-    let told = gate::answer_of(done.out);
-    let after = done.place;
-    let left = done.pool;
-    Changed {
-        answer: told,
-        place: after,
-        pool: left,
-    }
-}
-
-// Removes the file of a path.
-pub fn remove_file(
-    bytes: &mut [u8],
-    phys: &mut [u64],
-    geometry: Geometry,
-    plan: &[u8],
-    place: Place,
-    nums: &mut [u64],
-    names: &mut [u8],
-    dirs: &[u8],
-    pool: Pool,
-    path: &[u8],
-) -> Changed
-    ensures { λ r. ⌜ outcome (numberOf (r .answer)) tt (lent (dev (now (bytes .exit)) (now (phys .exit)) (r .place)) (bufs (r .pool) (now (nums .exit)) (now (names .exit)) (now (dirs .entry)))) ≡ removeP (now (plan .entry)) geometry (now (path .entry)) (lent (dev (now (bytes .entry)) (now (phys .entry)) place) (bufs pool (now (nums .entry)) (now (names .entry)) (now (dirs .entry)))) ⌝ }
-{
-    let no = gate::admitted(bytes, phys, geometry, nums, names, dirs, pool);
-    if no != 0 {
-        let refusal = gate::answer_of(no);
-        return Changed {
-            answer: refusal,
-            place: place,
-            pool: pool,
-        };
-    }
-    if !text::is_text(path) {
-        return Changed {
-            answer: Answer::NotText,
-            place: place,
-            pool: pool,
-        };
-    }
-    let done = files::remove_file(
-        bytes,
-        phys,
-        geometry,
-        plan,
-        place,
-        nums,
-        names,
-        dirs,
-        pool,
-        path,
-    );
-    let told = gate::answer_of(done.out);
-    let after = done.place;
-    let left = done.pool;
-    Changed {
-        answer: told,
-        place: after,
-        pool: left,
-    }
+    *at = reply.place;
+    reply
 }

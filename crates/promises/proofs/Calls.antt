@@ -31,7 +31,7 @@ use Rattle.handles.specs.Laws.{stays}
 use Rattle.files.specs.Files.{isFile, roomFor, registers, binds, Handle, handle, noHandle, created, createM, admitsNew, openNewM, openWriteM}
 use Rattle.files.specs.Laws.{first-held, open-write-fit}
 use Rattle.renames.specs.Rename.{frontM, renameM}
-use Rattle.pool.specs.Public.{openWriteP}
+use Rattle.named.specs.Public.{openWriteP}
 use Rattle.promises.specs.Demand3.{Untouched}
 use Rattle.promises.specs.Edges.{Setting, state, NewFile, Able, Opens, P1, P4, Unmoved, P5}
 use Rattle.promises.proofs.Adopt.{untouched-now}

@@ -33,7 +33,7 @@ use Rattle.survey.specs.Heads.{Head, absent, idle, claim, saidOf, headOf}
 use Rattle.survey.specs.Survey.{Survey}
 use Rattle.survey.specs.Survey as S
 use Rattle.mount.specs.Mount.{Came, begin, installed, drain, emptyState, mountM}
-use Rattle.pool.specs.Public.{slotRows, dirRows}
+use Rattle.intake.specs.Public.{slotRows, dirRows}
 use Rattle.promises.specs.Demand3.{headerAt, asks, Best, Holds, Rule, surveyed, standing}
 use Rattle.promises.specs.Edges.{Mount, head, block, Claimless, after, rows, Done, Free, P2, P3, front, P8}
 use Rattle.promises.proofs.Free.{short-said}

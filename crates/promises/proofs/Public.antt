@@ -22,15 +22,16 @@ use Rattle.renames.specs.Rename.{renameM}
 use Rattle.mount.specs.Mount.{Came, Done, mounted, mountM}
 use Rattle.mount.specs.Laws.{mount-valid}
 use Rattle.gate.specs.Refusals.{pooled, holdsPool, shaped, worded, onDevice}
-use Rattle.pool.specs.Public.{rowsB, slotRows, dirRows, unmounted, told, mountP, openWriteP, renameP}
-use Rattle.pool.specs.Stays.{rows-shaped}
+use Rattle.intake.specs.Public.{rowsB, slotRows, dirRows, unmounted, told, mountP}
+use Rattle.named.specs.Public.{openWriteP, renameP}
+use Rattle.intake.specs.Stays.{rows-shaped}
 use Rattle.file.specs.Public.{readAtP}
 use Rattle.promises.proofs.Buffers.{mounted-done}
 
 -- ---- the calls on a pool
 
 module _ (g : Geometry) (l : Lent) (R : Ready g l) where
-  on-device : {A : Type 0} (zeros : A) (o : Outcome A Lent) → onDevice g zeros l o ≡ o
+  pub on-device : {A : Type 0} (zeros : A) (o : Outcome A Lent) → onDevice g zeros l o ≡ o
   unfolding onDevice pooled shaped holdsPool
   on-device zeros o =
       rw (pool-tested (l .bufs) (R .pool), shape-means g (l .dev .bytes) (l .dev .phys) .1 (R .shape), le-leb (l .bufs .pool .held) (length (l .dev .phys)) (R .slots))

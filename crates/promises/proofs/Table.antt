@@ -25,7 +25,8 @@ use Rattle.mount.specs.Mount.{Came, came, installed, drain, moved, emptyState, 
 use Rattle.mount.specs.Mount as Mount
 use Rattle.handles.specs.Outcome.{Outcome, None}
 use Rattle.files.specs.Files.{isFile}
-use Rattle.pool.specs.Public.{slotRows, dirRows, openWriteP}
+use Rattle.intake.specs.Public.{slotRows, dirRows}
+use Rattle.named.specs.Public.{openWriteP}
 use Rattle.promises.specs.Demand3.{headerAt, asks, Untouched, reading, surveyed, standing}
 use Rattle.promises.specs.Edges.{Setting, Mount, head, block, valid, Claimless, mounted, after, rows, Done, Room, Apart, P6, P7, TableP, FromBlank, P1}
 use Rattle.promises.proofs.Adopt.{not-many, settled}

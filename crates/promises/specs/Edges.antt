@@ -25,7 +25,8 @@ use Rattle.survey.specs.Heads.{Head, absent, claim}
 use Rattle.handles.specs.Outcome.{Outcome, outcome, flatO, None}
 use Rattle.handles.specs.Handles.{isLive, filling, readPart}
 use Rattle.files.specs.Files.{isFile, Handle, handle, noHandle}
-use Rattle.pool.specs.Public.{rowsB, slotRows, dirRows, mountP, openWriteP, renameP}
+use Rattle.intake.specs.Public.{rowsB, slotRows, dirRows, mountP}
+use Rattle.named.specs.Public.{openWriteP, renameP}
 use Rattle.file.specs.Public.{readAtP}
 use Rattle.promises.specs.Demand3.{headerAt, asks, Untouched, Holds, Registered}
 

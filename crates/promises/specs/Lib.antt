@@ -2,3 +2,4 @@ pub mod Demand3
 pub mod Buffers
 pub mod Edges
 pub mod Outcomes
+pub mod Face

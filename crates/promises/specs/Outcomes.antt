@@ -1,5 +1,5 @@
 -- 01, "What the contracts have to decide": "For every input, refused ones too, a public call's contract determines its result and every buffer byte. Prove for
--- each call that any two outcomes it allows are the same." The contract of each call of the crates pool, file and folder is one equation: the answer's number,
+-- each call that any two outcomes it allows are the same." The contract of each call of the crates intake, named, file and folder is one equation: the answer's number,
 -- the further results, and all that was lent, as it is at the end, are together the call's model of what was given. proofs/Outcomes.antt proves it of them all.
 use Prim.Native.Nat.{ℕ}
 use mathlib.Core.Path.{_≡_}
@@ -13,7 +13,8 @@ use Rattle.handles.specs.Outcome.{Outcome, outcome}
 use Rattle.gate.specs.declared.Answer.{Answer}
 use Rattle.gate.specs.Answers.{numberOf, answerOf}
 use Rattle.gate.specs.Refusals.{barred}
-use Rattle.pool.specs.Public.{mountP, adoptP, openReadP, openWriteP, renameP, removeP}
+use Rattle.intake.specs.Public.{mountP, adoptP}
+use Rattle.named.specs.Public.{openReadP, openWriteP, renameP, removeP}
 use Rattle.file.specs.Public.{readAtP, writeAtP, fileLenP, setLenP, syncP}
 use Rattle.folder.specs.Public.{syncDirP, createDirAllP, readDirP, existsP, metadataP}
 

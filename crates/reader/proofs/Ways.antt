@@ -51,7 +51,8 @@ col f (r ∷ l) = f r ∷ col f l
 -- a row of the table, read column by column
 pub columns : (l : List Form) (i : ℕ)
     → form (getD (col (λ f. f .slot) l) i 0) (getD (col (λ f. f .generation) l) i 0) (getD (col (λ f. f .at) l) i 0) (getD (col (λ f. f .n) l) i 0)
-    (getD (col (λ f. f .runs) l) i 0) (getD (col (λ f. f .x) l) i 0) (getD (col (λ f. f .y) l) i 0) (getD (col (λ f. f .z) l) i 0) ≡ getD l i noForm
+    (getD (col (λ f. f .runs) l) i 0) (getD (col (λ f. f .«gives_slot») l) i 0) (getD (col (λ f. f .«gives_generation») l) i 0)
+    (getD (col (λ f. f .«gives_len») l) i 0) (getD (col (λ f. f .«gives_count») l) i 0) (getD (col (λ f. f .«gives_yes») l) i 0) ≡ getD l i noForm
 columns [] i = refl
 columns (r ∷ l) zero = refl
 columns (r ∷ l) (suc i) = columns l i

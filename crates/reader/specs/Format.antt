@@ -37,33 +37,44 @@ part s r = take (r .to - r .from) (drop (r .from) s)
 
 -- ---- operations
 
--- Widths of slot, generation, offset or length, and small number; count of runs; widths of the numbers in the answer.
-abbrev pub form : ℕ → ℕ → ℕ → ℕ → ℕ → ℕ → ℕ → ℕ → Form
-form slot generation at n runs x y z = record { slot = slot; generation = generation; at = at; n = n; runs = runs; x = x; y = y; z = z }
+-- Widths of slot, generation, offset or length, and small number; count of runs; and, of the answer, widths of slot, generation, length, count and yes.
+abbrev pub form : ℕ → ℕ → ℕ → ℕ → ℕ → ℕ → ℕ → ℕ → ℕ → ℕ → Form
+form slot generation pos n runs slot′ generation′ len′ count′ yes′ = record {
+  slot = slot;
+  generation = generation;
+  at = pos;
+  n = n;
+  runs = runs;
+  «gives_slot» = slot′;
+  «gives_generation» = generation′;
+  «gives_len» = len′;
+  «gives_count» = count′;
+  «gives_yes» = yes′;
+}
 
 abbrev pub noForm : Form
-noForm = form 0 0 0 0 0 0 0 0
+noForm = form 0 0 0 0 0 0 0 0 0 0
 
 -- The table of codes. A handle is "slot u32, generation u64"; the bytes of a buffer that was lent come behind the numbers.
 abbrev pub forms : List Form
 forms =
     noForm
-    ∷ form 0 0 0 1 0 0 0 0  -- 1 mount: u8 slots asked for
-    ∷ form 0 0 0 1 0 0 0 0  -- 2 adopt: u8 slots asked for
-    ∷ form 0 0 0 1 1 4 8 8  -- 3 open_write: u8 keep, run path; slot u32, generation u64, length u64
-    ∷ form 0 0 0 0 1 4 8 0  -- 4 open_read: run path; slot u32, generation u64
-    ∷ form 4 8 8 2 0 4 0 0  -- 5 read: handle, u64 at, u16 buffer length; count u32
-    ∷ form 4 8 8 0 1 0 0 0  -- 6 write: handle, u64 at, run bytes
-    ∷ form 4 8 8 0 0 0 0 0  -- 7 set_len: handle, u64 length
-    ∷ form 4 8 0 0 0 8 0 0  -- 8 file_len: handle; u64
-    ∷ form 4 8 0 0 0 0 0 0  -- 9 sync: handle
-    ∷ form 0 0 0 0 1 0 0 0  -- 10 sync_dir: run path
-    ∷ form 0 0 0 0 2 0 0 0  -- 11 rename: run from, run to
-    ∷ form 0 0 0 0 1 0 0 0  -- 12 remove: run path
-    ∷ form 0 0 0 0 1 0 0 0  -- 13 create_dir_all: run path
-    ∷ form 0 0 0 2 1 4 0 0  -- 14 read_dir: u16 buffer length, run path; bytes written u32
-    ∷ form 0 0 0 0 1 1 0 0  -- 15 exists: run path; u8
-    ∷ form 0 0 0 0 1 8 1 0  -- 16 metadata: run path; length u64, u8 is a directory
+    ∷ form 0 0 0 1 0 0 0 0 0 0  -- 1 mount: u8 slots asked for
+    ∷ form 0 0 0 1 0 0 0 0 0 0  -- 2 adopt: u8 slots asked for
+    ∷ form 0 0 0 1 1 4 8 8 0 0  -- 3 open_write: u8 keep, run path; slot u32, generation u64, length u64
+    ∷ form 0 0 0 0 1 4 8 0 0 0  -- 4 open_read: run path; slot u32, generation u64
+    ∷ form 4 8 8 2 0 0 0 0 4 0  -- 5 read: handle, u64 at, u16 buffer length; count u32
+    ∷ form 4 8 8 0 1 0 0 0 0 0  -- 6 write: handle, u64 at, run bytes
+    ∷ form 4 8 8 0 0 0 0 0 0 0  -- 7 set_len: handle, u64 length
+    ∷ form 4 8 0 0 0 0 0 8 0 0  -- 8 file_len: handle; u64
+    ∷ form 4 8 0 0 0 0 0 0 0 0  -- 9 sync: handle
+    ∷ form 0 0 0 0 1 0 0 0 0 0  -- 10 sync_dir: run path
+    ∷ form 0 0 0 0 2 0 0 0 0 0  -- 11 rename: run from, run to
+    ∷ form 0 0 0 0 1 0 0 0 0 0  -- 12 remove: run path
+    ∷ form 0 0 0 0 1 0 0 0 0 0  -- 13 create_dir_all: run path
+    ∷ form 0 0 0 2 1 0 0 0 4 0  -- 14 read_dir: u16 buffer length, run path; bytes written u32
+    ∷ form 0 0 0 0 1 0 0 0 0 1  -- 15 exists: run path; u8
+    ∷ form 0 0 0 0 1 0 0 8 0 1  -- 16 metadata: run path; length u64, u8 is a directory
     ∷ []
 
 unfoldable pub formOf : ℕ → Form

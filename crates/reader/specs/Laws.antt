@@ -62,9 +62,11 @@ pub record Small (f : Form) : Type 0 where
   pub generation : f .generation ≤ 8
   pub at : f .at ≤ 8
   pub n : f .n ≤ 2
-  pub x : f .x ≤ 8
-  pub y : f .y ≤ 8
-  pub z : f .z ≤ 8
+  pub gives-slot : f .«gives_slot» ≤ 8
+  pub gives-generation : f .«gives_generation» ≤ 8
+  pub gives-len : f .«gives_len» ≤ 8
+  pub gives-count : f .«gives_count» ≤ 8
+  pub gives-yes : f .«gives_yes» ≤ 8
 
 pub form-small : (code : ℕ) → Small (formOf code)
 unfolding formOf
@@ -73,9 +75,11 @@ form-small code = record {
   generation = below (λ f. f .generation) 8 forms (omega arith) refl code;
   at = below (λ f. f .at) 8 forms (omega arith) refl code;
   n = below (λ f. f .n) 2 forms (omega arith) refl code;
-  x = below (λ f. f .x) 8 forms (omega arith) refl code;
-  y = below (λ f. f .y) 8 forms (omega arith) refl code;
-  z = below (λ f. f .z) 8 forms (omega arith) refl code;
+  gives-slot = below (λ f. f .«gives_slot») 8 forms (omega arith) refl code;
+  gives-generation = below (λ f. f .«gives_generation») 8 forms (omega arith) refl code;
+  gives-len = below (λ f. f .«gives_len») 8 forms (omega arith) refl code;
+  gives-count = below (λ f. f .«gives_count») 8 forms (omega arith) refl code;
+  gives-yes = below (λ f. f .«gives_yes») 8 forms (omega arith) refl code;
 }
 
 -- A number of w bytes.

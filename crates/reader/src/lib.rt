@@ -16,16 +16,18 @@ pub struct Span {
     pub whole: bool,
 }
 
-// How an operation is written: the widths of its numbers, how many runs come behind them, and the widths of the numbers it answers.
+// How an operation is written: the widths of its numbers, how many runs come behind them, and the widths of what it answers.
 pub struct Form {
     pub slot: usize,
     pub generation: usize,
     pub at: usize,
     pub n: usize,
     pub runs: usize,
-    pub x: usize,
-    pub y: usize,
-    pub z: usize,
+    pub gives_slot: usize,
+    pub gives_generation: usize,
+    pub gives_len: usize,
+    pub gives_count: usize,
+    pub gives_yes: usize,
 }
 
 // An operation: its code, its arguments, those it does not have zero or empty. Code 0 stands for none. The next operation is at `second.to`.
@@ -112,18 +114,22 @@ pub fn form_of(code: usize) -> Form
     let at: [usize; 17] = [0, 0, 0, 0, 0, 8, 8, 8, 0, 0, 0, 0, 0, 0, 0, 0, 0];
     let n: [usize; 17] = [0, 1, 1, 1, 0, 2, 0, 0, 0, 0, 0, 0, 0, 0, 2, 0, 0];
     let runs: [usize; 17] = [0, 0, 0, 1, 1, 0, 1, 0, 0, 0, 1, 2, 1, 1, 1, 1, 1];
-    let x: [usize; 17] = [0, 0, 0, 4, 4, 4, 0, 0, 8, 0, 0, 0, 0, 0, 4, 1, 8];
-    let y: [usize; 17] = [0, 0, 0, 8, 8, 0, 0, 0, 0, 0, 0, 0, 0, 0, 0, 0, 1];
-    let z: [usize; 17] = [0, 0, 0, 8, 0, 0, 0, 0, 0, 0, 0, 0, 0, 0, 0, 0, 0];
+    let gives_slot: [usize; 17] = [0, 0, 0, 4, 4, 0, 0, 0, 0, 0, 0, 0, 0, 0, 0, 0, 0];
+    let gives_generation: [usize; 17] = [0, 0, 0, 8, 8, 0, 0, 0, 0, 0, 0, 0, 0, 0, 0, 0, 0];
+    let gives_len: [usize; 17] = [0, 0, 0, 8, 0, 0, 0, 0, 8, 0, 0, 0, 0, 0, 0, 0, 8];
+    let gives_count: [usize; 17] = [0, 0, 0, 0, 0, 4, 0, 0, 0, 0, 0, 0, 0, 0, 4, 0, 0];
+    let gives_yes: [usize; 17] = [0, 0, 0, 0, 0, 0, 0, 0, 0, 0, 0, 0, 0, 0, 0, 1, 1];
     Form {
         slot: slot[code],
         generation: generation[code],
         at: at[code],
         n: n[code],
         runs: runs[code],
-        x: x[code],
-        y: y[code],
-        z: z[code],
+        gives_slot: gives_slot[code],
+        gives_generation: gives_generation[code],
+        gives_len: gives_len[code],
+        gives_count: gives_count[code],
+        gives_yes: gives_yes[code],
     }
 }
 

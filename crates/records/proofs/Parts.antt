@@ -1,4 +1,4 @@
--- What the walks of this crate share: the types of a record and of the flat numbers, their machine values, and steps that own one for nothing.
+-- What the walks of this crate and of crate entry share: the types of a record, of the flat numbers and of an array of records, their machine values, and steps that own one for nothing.
 -- The steps assume `Given`.
 use mathlib.Core.List.{List, [], _∷_}
 use Prim.Native.Nat.{ℕ}
@@ -43,9 +43,28 @@ nums-tells = array-tells u64 (uint-vals w64) (uint-tells w64) 256
 pub nums-room : Room u64 256
 nums-room = (lit< tt, lit< tt)
 
+-- the array of 66 records
+abbrev pub rowsT : RattleType
+rowsT = Array slotT 66
+
+abbrev pub rowsVs : List Slot → List Val
+rowsVs = array-vals (LL.vals S.the-type S′.the-laws)
+
+abbrev pub rowsV : List Slot → Val
+rowsV rs = only (rowsVs rs)
+
+pub rows-tells : Tells rowsT (Is rowsT) rowsVs
+rows-tells = array-tells slotT (LL.vals S.the-type S′.the-laws) (LL.tells S.the-type S′.the-laws) 66
+
+pub rows-room : Room slotT 66
+rows-room = (lit< tt, lit< tt)
+
 module _ {M : Type 1} {𝓤 : URA M} {H : Heap 𝓤} {A : Atoms 𝓤} {K : Type 0} {W : Given 𝓤 H A} {Γ : List (Item 𝓤)} {G : Goal 𝓤 H} where
   pub a-slot : K → (r : Slot) → Is slotT r (slotV r ∷ []) → Step K W (‵ (slotT .own r (slotV r ∷ [])) ∷ Γ) G Γ G
   a-slot t r is = owned t slotT (Is slotT) (LL.makes S.the-type S′.the-plain 𝓤 H A) r (slotV r ∷ []) is
 
   pub a-nums : K → (s : List ℕ) → Is numsT s (numsVs s) → Step K W (‵ (numsT .own s (numsVs s)) ∷ Γ) G Γ G
   a-nums t s is = owned t numsT (Is numsT) (array-makes 𝓤 H A W u64 (uint-makes 𝓤 H A W w64) 256) s (numsVs s) is
+
+  pub a-rows : K → (rs : List Slot) → Is rowsT rs (rowsVs rs) → Step K W (‵ (rowsT .own rs (rowsVs rs)) ∷ Γ) G Γ G
+  a-rows t rs is = owned t rowsT (Is rowsT) (array-makes 𝓤 H A W slotT (LL.makes S.the-type S′.the-plain 𝓤 H A) 66) rs (rowsVs rs) is

@@ -1,14 +1,14 @@
--- What the two loops do: what is written so far, with what is left laid over the rest, is the whole.
+-- What the loops do: what is written so far, with what is left laid over the rest, is the whole.
 use mathlib.Core.Path.{_≡_, sym, ap, _∙_}
 use mathlib.Core.List.{List, [], _++_, append-nil}
-use Prim.Native.Nat.{ℕ, suc, _+_, _*_, _≤_, _<_}
+use Prim.Native.Nat.{ℕ, suc, _+_, _-_, _*_, _≤_, _<_}
 use native.Mathlib.Numerals.{add-one}
 use native.Mathlib.Omega.{arith}
-use lib.ListN.{length, set, take, drop, drop-of-length-le}
+use lib.ListN.{length, set, take, drop, replicate, drop-of-length-le, length-replicate}
 use lib.Seq.{sets, sets-eq, drop-cons, length-take-le, getD-take}
 use Rattle.lists.specs.Blocks.{cat, sets-append}
 use Rattle.records.specs.declared.Slot.{Slot}
-use Rattle.records.specs.Records.{none, slotAt, slotNums, numsOf, slotIn, slotsOf, loaded, stored}
+use Rattle.records.specs.Records.{none, slotAt, slotNums, numsOf, slotIn, slotsOf, loaded, stored, cleared}
 use Rattle.records.specs.Laws.{length-nums, length-slots, slot-next}
 
 -- ---- from records to numbers
@@ -67,3 +67,25 @@ store-end s rs i l h n w =
     let y : length (front s rs) ≡ length rs * 4 = length-take-le (length rs * 4) s h in
     let d : drop (i * 4) (front s rs) ≡ [] = drop-of-length-le (front s rs) {i = i * 4} (omega arith) in
     ap (λ (x : List ℕ). sets l i (slotsOf x)) (sym d) ∙ w
+
+-- ---- zero rows
+
+abbrev pub Clearing : ℕ → List Slot → ℕ → List Slot → Type 0
+Clearing n rs i l = sets l i (replicate (n - i) none) ≡ cleared n rs
+
+pub clear-start : (n : ℕ) (rs : List Slot) → n ≤ length rs → Clearing n rs 0 rs
+unfolding cleared
+clear-start n rs h =
+    let z : n - 0 ≡ n = omega arith in
+    let k : 0 + length (replicate n none) ≡ n = simp length-replicate (omega arith) in
+    rw z (sets-eq (replicate n none) rs 0 (omega arith) ∙ ap (λ (x : ℕ). replicate n none ++ drop x rs) k)
+
+pub clear-turn : (n : ℕ) (rs : List Slot) (i : ℕ) (l m : List Slot) (r : Slot) → i < n → r ≡ none → m ≡ set l i r → Clearing n rs i l → Clearing n rs (i + 1) m
+clear-turn n rs i l m r h f e w =
+    let k : n - i ≡ suc (n - (i + 1)) = omega arith in
+    rw (e, f, add-one i) (rw (k, add-one i) at w)
+
+pub clear-end : (n : ℕ) (rs : List Slot) (i : ℕ) (l : List Slot) → n ≤ i → Clearing n rs i l → l ≡ cleared n rs
+clear-end n rs i l h w =
+    let k : n - i ≡ 0 = omega arith in
+    rw k at w

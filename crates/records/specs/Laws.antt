@@ -3,12 +3,12 @@ use mathlib.Core.Path.{_≡_, refl, sym, ap, _∙_}
 use mathlib.Core.List.{List, [], _∷_, _++_, map, append-nil}
 use Prim.Native.Nat.{ℕ, zero, suc, _+_, _-_, _*_, _≤_, _<_}
 use native.Mathlib.Omega.{arith}
-use lib.ListN.{length, getD, drop, replicate, drop-of-length-le}
-use lib.Seq.{drop-cons, take-all, take-at}
-use Rattle.lists.specs.Blocks.{pad, pad-fits, cat, length-cat}
+use lib.ListN.{length, getD, take, drop, replicate, drop-of-length-le}
+use lib.Seq.{drop-cons, drop-length, length-take-le, take-all, take-at}
+use Rattle.lists.specs.Blocks.{pad, pad-fits, take-pad, cat, length-cat}
 use Rattle.rows.specs.Rows.{Row, unbound, bound, rowNums}
 use Rattle.records.specs.declared.Slot.{Slot}
-use Rattle.records.specs.Records.{slotOf, slotNums, numsOf, slotIn, slotsOf, loaded, stored}
+use Rattle.records.specs.Records.{none, slotOf, slotNums, numsOf, slotIn, slotsOf, loaded, stored, flatOf, cleared}
 
 -- The numbers of records give the records back.
 pub slots-nums : (rs : List Slot) → slotsOf (numsOf rs) ≡ rs
@@ -91,3 +91,26 @@ slot-next s i h =
     ∙ ap (λ (x : List ℕ). getD s (a + 1) 0 ∷ x) (drop-one s (a + 2) (a + 3) (omega arith) (omega arith)
     ∙ ap (λ (x : List ℕ). getD s (a + 2) 0 ∷ x) (drop-one s (a + 3) (a + 4) (omega arith) (omega arith)))) in
     ap slotsOf d
+
+-- At most 64 rows stand at the front of the zero filled array, and what is stored of an array are the rows at its front.
+pub flat-front : (rs : List Slot) → length rs ≤ 64 → take (length rs * 4) (flatOf rs) ≡ numsOf rs
+unfolding flatOf
+flat-front rs h =
+    let k : length (numsOf rs) ≡ length rs * 4 = length-nums rs in
+    ap (λ (x : ℕ). take x (flatOf rs)) (sym k) ∙ take-pad 256 (numsOf rs) (omega arith)
+
+pub nums-stored : (s : List ℕ) (rs : List Slot) → length rs * 4 ≤ length s → numsOf (stored s rs) ≡ take (length rs * 4) s
+unfolding stored
+nums-stored s rs h = nums-slots (length rs) (take (length rs * 4) s) (length-take-le (length rs * 4) s h)
+
+nums-none : (n : ℕ) → numsOf (replicate n none) ≡ replicate (n * 4) 0
+unfolding numsOf cat slotNums
+nums-none zero = refl
+nums-none (suc n) =
+    let k : suc n * 4 ≡ suc (suc (suc (suc (n * 4)))) = omega arith in
+    rw k (ap (λ (x : List ℕ). 0 ∷ 0 ∷ 0 ∷ 0 ∷ x) (nums-none n))
+
+-- Rows that are all zero: so are their numbers.
+pub nums-cleared : (rs : List Slot) → numsOf (cleared (length rs) rs) ≡ replicate (length (numsOf rs)) 0
+unfolding cleared
+nums-cleared rs = rw (drop-length rs, append-nil (replicate (length rs) none), length-nums rs) (nums-none (length rs))

@@ -1,7 +1,7 @@
 -- Slot rows as records (01, A pool: "the slot rows are a lent run of records, one row a slot"), and the flat numbers of crate rows.
 use mathlib.Core.List.{List, [], _∷_, _++_}
 use Prim.Native.Nat.{ℕ, _+_, _*_}
-use lib.ListN.{length, getD, take, drop}
+use lib.ListN.{length, getD, take, drop, replicate}
 use Rattle.lists.specs.Blocks.{pad, cat}
 use Rattle.rows.specs.Rows.{Row, unbound, bound, markOf}
 use Rattle.records.specs.declared.Slot.{Slot}
@@ -52,3 +52,7 @@ stored s rs = slotsOf (take (length rs * 4) s)
 -- the numbers of at most 64 rows, zero filled
 unfoldable pub flatOf : List Slot → List ℕ
 flatOf rs = pad 256 (numsOf rs)
+
+-- the rows with the first n of them zero
+unfoldable pub cleared : ℕ → List Slot → List Slot
+cleared n rs = replicate n none ++ drop n rs

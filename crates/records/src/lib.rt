@@ -2,10 +2,12 @@
 // is read without copying 480 of them. `get` and `set` touch one row, and no other function touches one: through them the flat numbers that
 // crate rows works on are loaded from the records, and stored back. Nothing is refused: an index is within the run, and a buffer has room for four numbers a row.
 ghost use mathlib.Core.Path.{_≡_};
-ghost use Prim.Native.Nat.{_+_, _*_, _≤_, _<_};
-ghost use lib.ListN.{length, set, replicate};
+ghost use mathlib.Core.Bool.{true};
+ghost use Prim.Native.Nat.{_+_, _*_, _/_, _≤_, _<_};
+ghost use lib.ListN.{length, set, take, replicate};
 ghost use lib.Seq.{sets};
-ghost use Rattle.records.specs.Records.{slotAt, slotNums, slotIn, loaded, stored, flatOf};
+ghost use Rattle.records.specs.Records.{none, slotAt, slotNums, numsOf, slotIn, loaded, stored, flatOf, cleared};
+ghost use Rattle.records.specs.Whole.{wholeRows, spreadOf};
 
 // A row: mark (0 unbound, 1 clean, 2 dirty), path length, file length, generation.
 pub struct Slot {
@@ -78,6 +80,83 @@ pub fn keep(rows: &mut [Slot], nums: [u64; 256])
 {
     store(rows, &nums);
 }
+
+// Makes the first n rows zero; every other row stays.
+pub fn clear(rows: &mut [Slot], n: usize)
+    requires { ⌜ n ≤ length (now rows) ⌝ }
+    ensures { λ _. ⌜ now (rows .exit) ≡ cleared n (now (rows .entry)) ⌝ }
+{
+    let mut i: usize = 0;
+    while i < n {
+        let slot = no_row();
+        set(rows, i, slot);
+        i += 1;
+    }
+}
+
+// A row that is zero.
+fn no_row() -> Slot
+    ensures { λ r. ⌜ r ≡ none ⌝ }
+{
+    Slot {
+        mark: 0,
+        path_len: 0,
+        len: 0,
+        generation: 0,
+    }
+}
+
+// ---- numbers that come as records
+
+// Whether numbers are whole rows, at most 66 of them.
+pub fn whole_rows(nums: &[u64]) -> bool
+    ensures { λ r. ⌜ r ≡ wholeRows (now (nums .entry)) ⌝ }
+{
+    let n = nums.len();
+    if 264 < n {
+        return false;
+    }
+    n % 4 == 0
+}
+
+// The records of whole rows of numbers, in front of zero ones.
+pub fn rows_of(nums: &[u64]) -> [Slot; 66]
+    requires { ⌜ wholeRows (now nums) ≡ true ⌝ }
+    ensures { λ r. ⌜ r ≡ spreadOf (now (nums .entry)) ⌝ }
+{
+    let mut rows = no_rows();
+    let n = nums.len() / 4;
+    let mut i: usize = 0;
+    while i < n {
+        rows[i] = from_nums(nums, i);
+        i += 1;
+    }
+    rows
+}
+
+// Makes whole rows of numbers those of the records at the front of an array.
+pub fn put_rows(nums: &mut [u64], rows: [Slot; 66])
+    requires { ⌜ wholeRows (now nums) ≡ true ⌝ }
+    ensures { λ _. ⌜ now (nums .exit) ≡ numsOf (take (length (now (nums .entry)) / 4) rows) ⌝ }
+{
+    let n = nums.len() / 4;
+    let mut i: usize = 0;
+    while i < n {
+        let slot = rows[i];
+        put_nums(nums, i, slot);
+        i += 1;
+    }
+}
+
+// Rows that are zero.
+fn no_rows() -> [Slot; 66]
+    ensures { λ r. ⌜ r ≡ replicate 66 none ⌝ }
+{
+    let slot = no_row();
+    [slot; 66]
+}
+
+// ---- parts
 
 // The numbers of no row.
 fn zeros() -> [u64; 256]

@@ -30,7 +30,7 @@ fn main() {
     let mut nums = [0u64; 16];
     let mut names = name_rows();
     let mut dirs = dir_rows();
-    let mounted = pool::mount(
+    let mounted = intake::mount(
         &mut bytes,
         &mut phys,
         lines::geometry(),

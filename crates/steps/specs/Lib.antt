@@ -4,3 +4,4 @@ pub mod Examples
 pub mod Laws
 pub mod Frees
 pub mod Calls
+pub mod Numbers

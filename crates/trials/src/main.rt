@@ -13,7 +13,7 @@ fn main() {
     let mut nums = [0u64; 16];
     let mut names = [0u8; 1920];
     let mut dirs = [0u8; 964];
-    let mounted = pool::mount(
+    let mounted = intake::mount(
         &mut bytes,
         &mut phys,
         Geometry { size: 512 },
@@ -26,7 +26,7 @@ fn main() {
     );
     let answer = mounted.answer;
     tell(b"mount of three slots of four", answer);
-    let opened = pool::open_write(
+    let opened = named::open_write(
         &mut bytes,
         &mut phys,
         Geometry { size: 512 },
@@ -50,7 +50,7 @@ fn main() {
 
 // Looks for a/b, and prints the number.
 fn look(what: &[u8], nums: &[u64], names: &[u8], dirs: &[u8], pool: Pool) {
-    let reader = pool::open_read(nums, names, dirs, pool, b"a/b");
+    let reader = named::open_read(nums, names, dirs, pool, b"a/b");
     let answer = reader.answer;
     tell(what, answer);
 }

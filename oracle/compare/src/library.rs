@@ -95,55 +95,38 @@ mod linked {
         unsafe { path_parent(path.as_ptr(), path.len(), out.as_mut_ptr(), out.len()) }
     }
 
+    // The record's arguments of an export, and what more it takes.
     #[cfg(records)]
-    pub fn record(nums: &[u64], names: &[u8], dirs: &[u8], counts: [usize; 4], counter: u64) -> u8 {
-        let [rows, dir_rows, held, dirs_held] = counts;
-        unsafe {
-            record_check(
-                nums.as_ptr(),
-                nums.len(),
-                names.as_ptr(),
-                names.len(),
-                dirs.as_ptr(),
-                dirs.len(),
-                rows,
-                dir_rows,
-                held,
-                dirs_held,
-                counter,
-            )
-        }
+    macro_rules! over_record {
+        ($export:ident, $record:expr $(, $more:expr)*) => {{
+            let [rows, dir_rows, held, dirs_held] = $record.counts;
+            unsafe {
+                $export(
+                    $record.nums.as_ptr(),
+                    $record.nums.len(),
+                    $record.names.as_ptr(),
+                    $record.names.len(),
+                    $record.dirs.as_ptr(),
+                    $record.dirs.len(),
+                    rows,
+                    dir_rows,
+                    held,
+                    dirs_held,
+                    $record.counter
+                    $(, $more)*
+                )
+            }
+        }};
     }
 
     #[cfg(records)]
-    pub fn lookups(
-        nums: &[u64],
-        names: &[u8],
-        dirs: &[u8],
-        counts: [usize; 4],
-        counter: u64,
-        path: &[u8],
-        times: u64,
-    ) -> u64 {
-        let [rows, dir_rows, held, dirs_held] = counts;
-        unsafe {
-            record_lookups(
-                nums.as_ptr(),
-                nums.len(),
-                names.as_ptr(),
-                names.len(),
-                dirs.as_ptr(),
-                dirs.len(),
-                rows,
-                dir_rows,
-                held,
-                dirs_held,
-                counter,
-                path.as_ptr(),
-                path.len(),
-                times,
-            )
-        }
+    pub fn record(record: &super::Record) -> u8 {
+        over_record!(record_check, record)
+    }
+
+    #[cfg(records)]
+    pub fn lookups(record: &super::Record, path: &[u8], times: u64) -> u64 {
+        over_record!(record_lookups, record, path.as_ptr(), path.len(), times)
     }
 
     #[cfg(scripts)]
@@ -199,49 +182,36 @@ pub const LEAVES: bool = cfg!(library);
 /// Whether the library says alone if a record is a pool.
 pub const RECORDS: bool = cfg!(records);
 
-/// Whether a record with these counts (slot rows, directory rows, slots held, directories held), an empty queue and
-/// this counter is a pool.
+/// A record with an empty queue over lent rows. The counts: slot rows, directory rows, slots held, directories held.
+#[cfg_attr(not(records), allow(dead_code))]
+pub struct Record<'a> {
+    pub nums: &'a [u64],
+    pub names: &'a [u8],
+    pub dirs: &'a [u8],
+    pub counts: [usize; 4],
+    pub counter: u64,
+}
+
+/// Whether it is a pool.
 #[cfg(records)]
-pub fn record(nums: &[u64], names: &[u8], dirs: &[u8], counts: [usize; 4], counter: u64) -> bool {
-    linked::record(nums, names, dirs, counts, counter) == 1
+pub fn record(record: &Record) -> bool {
+    linked::record(record) == 1
 }
 
 /// The same face where the library does not say it: `RECORDS` is false, so that this is not reached.
 #[cfg(not(records))]
-pub fn record(
-    _nums: &[u64],
-    _names: &[u8],
-    _dirs: &[u8],
-    _counts: [usize; 4],
-    _counter: u64,
-) -> bool {
+pub fn record(_record: &Record) -> bool {
     unreachable!("no record_check was linked")
 }
 
 /// The test of such a record, and if it is a pool so many searches of a path: how many found it.
 #[cfg(records)]
-pub fn lookups(
-    nums: &[u64],
-    names: &[u8],
-    dirs: &[u8],
-    counts: [usize; 4],
-    counter: u64,
-    path: &[u8],
-    times: u64,
-) -> u64 {
-    linked::lookups(nums, names, dirs, counts, counter, path, times)
+pub fn lookups(record: &Record, path: &[u8], times: u64) -> u64 {
+    linked::lookups(record, path, times)
 }
 
 #[cfg(not(records))]
-pub fn lookups(
-    _nums: &[u64],
-    _names: &[u8],
-    _dirs: &[u8],
-    _counts: [usize; 4],
-    _counter: u64,
-    _path: &[u8],
-    _times: u64,
-) -> u64 {
+pub fn lookups(_record: &Record, _path: &[u8], _times: u64) -> u64 {
     unreachable!("no record_lookups was linked")
 }
 

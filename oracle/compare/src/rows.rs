@@ -54,29 +54,24 @@ impl Rows {
         &row[2..2 + usize::from(u16::from_le_bytes([row[0], row[1]]))]
     }
 
-    /// Slot rows, directory rows, slots held, directories held.
-    fn counts(&self) -> [usize; 4] {
-        [self.held, self.dirs.len() / DIR, self.held, self.dirs_held]
+    fn record(&self) -> library::Record<'_> {
+        library::Record {
+            nums: &self.nums,
+            names: &self.names,
+            dirs: &self.dirs,
+            counts: [self.held, self.dirs.len() / DIR, self.held, self.dirs_held],
+            counter: self.held as u64 + 1,
+        }
     }
 
     /// The proved test.
     pub fn library(&self) -> bool {
-        let counter = self.held as u64 + 1;
-        library::record(&self.nums, &self.names, &self.dirs, self.counts(), counter)
+        library::record(&self.record())
     }
 
     /// The proved test once, then so many searches of a path: how many found it.
     pub fn search(&self, path: &[u8], times: u64) -> u64 {
-        let counter = self.held as u64 + 1;
-        library::lookups(
-            &self.nums,
-            &self.names,
-            &self.dirs,
-            self.counts(),
-            counter,
-            path,
-            times,
-        )
+        library::lookups(&self.record(), path, times)
     }
 
     /// One plain pass over everything that is lent: the greatest byte and the greatest number.

@@ -6,130 +6,78 @@ use Rattle.calls.proofs.moving.Tie as tie
 use Rattle.calls.proofs.moving.Reads as reads
 use Rattle.calls.proofs.moving.Lts as lts
 use Rattle.calls.proofs.quiet.Reads as quiet-reads
-use Rattle.gate.proofs.number.Reads as number-reads
-use Rattle.pool.proofs.remove_file.Reads as remove-file-reads
-use Rattle.pool.proofs.rename.Reads as rename-reads
+use Rattle.named.proofs.remove_file.Reads as remove-file-reads
+use Rattle.named.proofs.rename.Reads as rename-reads
 
--- src/lib.rt:307:13
-sub-rename : tie.Need-sub-rename
-sub-rename c = search needs
-
--- src/lib.rt:307:13
-part-rename-start : tie.Need-part-rename-start
-part-rename-start c = search needs
-
--- src/lib.rt:307:13
-part-rename-end : tie.Need-part-rename-end
-part-rename-end c = search needs
-
--- src/lib.rt:308:13
-sub-rename-2 : tie.Need-sub-rename-2
-sub-rename-2 c = search needs
-
--- src/lib.rt:308:13
-part-rename-start-2 : tie.Need-part-rename-start-2
-part-rename-start-2 c = search needs
-
--- src/lib.rt:308:13
-part-rename-end-2 : tie.Need-part-rename-end-2
-part-rename-end-2 c = search needs
-
--- src/lib.rt:297:13
+-- src/lib.rt:429:13
 rename-requires : tie.Need-rename-requires
 rename-requires c κs = search needs
 
--- src/lib.rt:313:22
-number-requires : tie.Need-number-requires
-number-requires c κs = search needs
-
--- src/lib.rt:313:9
+-- src/lib.rt:445:9
 quiet-requires : tie.Need-quiet-requires
 quiet-requires c κs = search needs
 
--- src/lib.rt:313:9
+-- src/lib.rt:445:9
 same-length : tie.Need-same-length
 same-length c = search needs
 
--- src/lib.rt:313:9
+-- src/lib.rt:445:9
 same-length-2 : tie.Need-same-length-2
 same-length-2 c = search needs
 
--- src/lib.rt:313:9
+-- src/lib.rt:445:9
 same-length-3 : tie.Need-same-length-3
 same-length-3 c = search needs
 
--- src/lib.rt:313:9
+-- src/lib.rt:445:9
 same-length-4 : tie.Need-same-length-4
 same-length-4 c = search needs
 
--- src/lib.rt:313:9
+-- src/lib.rt:445:9
 same-length-5 : tie.Need-same-length-5
 same-length-5 c = search needs
 
--- src/lib.rt:313:9
+-- src/lib.rt:445:9
 returns : tie.Need-returns
-returns c = quiet-is _ _ _ _ _ _ _ _ _ _ _ (c .quiet .ensures) (c .before .number .ensures) (c .before .before .before .before .before .before .before .before .before .before .before .before .before .before .rename .ensures) ∙ is-rename _ _ _ _ _ (c .before .before .before .before .before .before .before .before .before .before .before .before .before .before .before .before .before .before .before .before .before .before .before .if1 .taken)
+returns c = quiet-is _ _ _ _ _ _ _ _ _ _ (c .quiet .ensures) (c .before .before .before .before .before .before .before .before .before .before .before .before .before .rename .ensures) ∙ is-rename _ _ _ _ _ _ (c .before .before .before .before .before .before .before .before .before .before .before .before .before .before .before .before .before .before .before .if1 .taken)
 
--- src/lib.rt:325:9
-sub-remove-file : tie.Need-sub-remove-file
-sub-remove-file c = search needs
-
--- src/lib.rt:325:9
-part-remove-file-start : tie.Need-part-remove-file-start
-part-remove-file-start c = search needs
-
--- src/lib.rt:325:9
-part-remove-file-end : tie.Need-part-remove-file-end
-part-remove-file-end c = search needs
-
--- src/lib.rt:315:9
+-- src/lib.rt:447:9
 remove-file-requires : tie.Need-remove-file-requires
 remove-file-requires c κs = search needs
 
--- src/lib.rt:330:11
-number-requires-2 : tie.Need-number-requires-2
-number-requires-2 c κs = search needs
-
--- src/lib.rt:330:5
+-- src/lib.rt:462:5
 quiet-requires-2 : tie.Need-quiet-requires-2
 quiet-requires-2 c κs = search needs
 
--- src/lib.rt:273:1
+-- src/lib.rt:411:1
 same-length-6 : tie.Need-same-length-6
 same-length-6 c = search needs
 
--- src/lib.rt:273:1
+-- src/lib.rt:411:1
 same-length-7 : tie.Need-same-length-7
 same-length-7 c = search needs
 
--- src/lib.rt:273:1
+-- src/lib.rt:411:1
 same-length-8 : tie.Need-same-length-8
 same-length-8 c = search needs
 
--- src/lib.rt:273:1
+-- src/lib.rt:411:1
 same-length-9 : tie.Need-same-length-9
 same-length-9 c = search needs
 
--- src/lib.rt:273:1
+-- src/lib.rt:411:1
 same-length-10 : tie.Need-same-length-10
 same-length-10 c = search needs
 
--- src/lib.rt:273:1
+-- src/lib.rt:411:1
 returns-2 : tie.Need-returns-2
-returns-2 c = quiet-is _ _ _ _ _ _ _ _ _ _ _ (c .quiet2 .ensures) (c .before .number2 .ensures) (c .before .before .before .before .before .before .before .before .before .before .before .before .remove-file .ensures) ∙ is-remove _ _ _ _ _ (c .before .before .before .before .before .before .before .before .before .before .before .before .before .before .before .before .before .before .before .if1 .left)
+returns-2 c = quiet-is _ _ _ _ _ _ _ _ _ _ (c .quiet2 .ensures) (c .before .before .before .before .before .before .before .before .before .before .before .remove-file .ensures) ∙ is-remove _ _ _ _ _ _ (c .before .before .before .before .before .before .before .before .before .before .before .before .before .before .before .before .before .if1 .left)
 
 pub moving-spec : {M : Type 1} → statement M
 moving-spec =
     tie.close
     (tie.spec
-    sub-rename
-    part-rename-start
-    part-rename-end
-    sub-rename-2
-    part-rename-start-2
-    part-rename-end-2
     rename-requires
-    number-requires
     quiet-requires
     same-length
     same-length-2
@@ -137,11 +85,7 @@ moving-spec =
     same-length-4
     same-length-5
     returns
-    sub-remove-file
-    part-remove-file-start
-    part-remove-file-end
     remove-file-requires
-    number-requires-2
     quiet-requires-2
     same-length-6
     same-length-7

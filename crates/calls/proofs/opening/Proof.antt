@@ -1,138 +1,113 @@
-use mathlib.Core.Path.{_∙_}
-use Rattle.calls.proofs.Ways.{quiet-is, opened-is, is-mount, is-adopt, is-open}
+use mathlib.Core.Path.{_∙_, ap}
+use Rattle.calls.specs.Calls.{opened}
+use Rattle.calls.proofs.Ways.{quiet-is, is-mount, is-adopt, is-open}
 use borrow.Author.Needs.{needs}
 use Rattle.calls.proofs.opening.Statement.{statement}
 use Rattle.calls.proofs.opening.Tie as tie
 use Rattle.calls.proofs.opening.Reads as reads
 use Rattle.calls.proofs.opening.Lts as lts
 use Rattle.calls.proofs.quiet.Reads as quiet-reads
-use Rattle.gate.proofs.number.Reads as number-reads
-use Rattle.pool.proofs.adopt.Reads as adopt-reads
-use Rattle.pool.proofs.mount.Reads as mount-reads
-use Rattle.pool.proofs.open_write.Reads as open-write-reads
+use Rattle.intake.proofs.adopt.Reads as adopt-reads
+use Rattle.intake.proofs.mount.Reads as mount-reads
+use Rattle.named.proofs.open_write.Reads as open-write-reads
 
--- src/lib.rt:44:13
+-- src/lib.rt:199:13
 mount-requires : tie.Need-mount-requires
 mount-requires c κs = search needs
 
--- src/lib.rt:58:22
-number-requires : tie.Need-number-requires
-number-requires c κs = search needs
-
--- src/lib.rt:58:9
+-- src/lib.rt:213:9
 quiet-requires : tie.Need-quiet-requires
 quiet-requires c κs = search needs
 
--- src/lib.rt:58:9
+-- src/lib.rt:213:9
 same-length : tie.Need-same-length
 same-length c = search needs
 
--- src/lib.rt:58:9
+-- src/lib.rt:213:9
 same-length-2 : tie.Need-same-length-2
 same-length-2 c = search needs
 
--- src/lib.rt:58:9
+-- src/lib.rt:213:9
 same-length-3 : tie.Need-same-length-3
 same-length-3 c = search needs
 
--- src/lib.rt:58:9
+-- src/lib.rt:213:9
 same-length-4 : tie.Need-same-length-4
 same-length-4 c = search needs
 
--- src/lib.rt:58:9
+-- src/lib.rt:213:9
 same-length-5 : tie.Need-same-length-5
 same-length-5 c = search needs
 
--- src/lib.rt:58:9
+-- src/lib.rt:213:9
 returns : tie.Need-returns
-returns c = quiet-is _ _ _ _ _ _ _ _ _ _ _ (c .quiet .ensures) (c .before .number .ensures) (c .before .before .before .before .before .before .before .before .before .before .before .before .before .before .mount .ensures) ∙ is-mount _ _ _ _ _ (c .before .before .before .before .before .before .before .before .before .before .before .before .before .before .before .before .before .before .before .before .if1 .taken)
+returns c = quiet-is _ _ _ _ _ _ _ _ _ _ (c .quiet .ensures) (c .before .before .before .before .before .before .before .before .before .before .before .before .before .mount .ensures) ∙ is-mount _ _ _ _ _ (c .before .before .before .before .before .before .before .before .before .before .before .before .before .before .before .before .before .before .before .if1 .taken)
 
--- src/lib.rt:61:13
+-- src/lib.rt:216:13
 adopt-requires : tie.Need-adopt-requires
 adopt-requires c κs = search needs
 
--- src/lib.rt:76:22
-number-requires-2 : tie.Need-number-requires-2
-number-requires-2 c κs = search needs
-
--- src/lib.rt:76:9
+-- src/lib.rt:231:9
 quiet-requires-2 : tie.Need-quiet-requires-2
 quiet-requires-2 c κs = search needs
 
--- src/lib.rt:76:9
+-- src/lib.rt:231:9
 same-length-6 : tie.Need-same-length-6
 same-length-6 c = search needs
 
--- src/lib.rt:76:9
+-- src/lib.rt:231:9
 same-length-7 : tie.Need-same-length-7
 same-length-7 c = search needs
 
--- src/lib.rt:76:9
+-- src/lib.rt:231:9
 same-length-8 : tie.Need-same-length-8
 same-length-8 c = search needs
 
--- src/lib.rt:76:9
+-- src/lib.rt:231:9
 same-length-9 : tie.Need-same-length-9
 same-length-9 c = search needs
 
--- src/lib.rt:76:9
+-- src/lib.rt:231:9
 same-length-10 : tie.Need-same-length-10
 same-length-10 c = search needs
 
--- src/lib.rt:76:9
+-- src/lib.rt:231:9
 returns-2 : tie.Need-returns-2
-returns-2 c = quiet-is _ _ _ _ _ _ _ _ _ _ _ (c .quiet2 .ensures) (c .before .number2 .ensures) (c .before .before .before .before .before .before .before .before .before .before .before .before .before .before .adopt .ensures) ∙ is-adopt _ _ _ _ _ (c .before .before .before .before .before .before .before .before .before .before .before .before .before .before .before .before .before .before .before .before .before .if1 .left) (c .before .before .before .before .before .before .before .before .before .before .before .before .before .before .before .before .before .before .before .before .if2 .taken)
+returns-2 c = quiet-is _ _ _ _ _ _ _ _ _ _ (c .quiet2 .ensures) (c .before .before .before .before .before .before .before .before .before .before .before .before .before .adopt .ensures) ∙ is-adopt _ _ _ _ _ (c .before .before .before .before .before .before .before .before .before .before .before .before .before .before .before .before .before .before .before .before .if1 .left) (c .before .before .before .before .before .before .before .before .before .before .before .before .before .before .before .before .before .before .before .if2 .taken)
 
--- src/lib.rt:91:9
-sub-open-write : tie.Need-sub-open-write
-sub-open-write c = search needs
-
--- src/lib.rt:91:9
-part-open-write-start : tie.Need-part-open-write-start
-part-open-write-start c = search needs
-
--- src/lib.rt:91:9
-part-open-write-end : tie.Need-part-open-write-end
-part-open-write-end c = search needs
-
--- src/lib.rt:81:9
+-- src/lib.rt:233:9
 open-write-requires : tie.Need-open-write-requires
 open-write-requires c κs = search needs
 
--- src/lib.rt:98:17
-number-requires-3 : tie.Need-number-requires-3
-number-requires-3 c κs = search needs
-
--- src/lib.rt:26:1
+-- src/lib.rt:182:1
 same-length-11 : tie.Need-same-length-11
 same-length-11 c = search needs
 
--- src/lib.rt:26:1
+-- src/lib.rt:182:1
 same-length-12 : tie.Need-same-length-12
 same-length-12 c = search needs
 
--- src/lib.rt:26:1
+-- src/lib.rt:182:1
 same-length-13 : tie.Need-same-length-13
 same-length-13 c = search needs
 
--- src/lib.rt:26:1
+-- src/lib.rt:182:1
 same-length-14 : tie.Need-same-length-14
 same-length-14 c = search needs
 
--- src/lib.rt:26:1
+-- src/lib.rt:182:1
 same-length-15 : tie.Need-same-length-15
 same-length-15 c = search needs
 
--- src/lib.rt:26:1
+-- src/lib.rt:182:1
 returns-3 : tie.Need-returns-3
-returns-3 c = opened-is _ _ (c .number3 .ensures) _ _ _ _ _ (c .before .before .before .before .before .before .before .before .before .before .before .before .before .open-write .ensures) ∙ is-open _ _ _ _ _ (c .before .before .before .before .before .before .before .before .before .before .before .before .before .before .before .before .before .before .before .before .before .before .before .if1 .left) (c .before .before .before .before .before .before .before .before .before .before .before .before .before .before .before .before .before .before .before .before .before .before .if2 .left)
+returns-3 c = ap opened (c .before .before .before .before .before .before .before .before .before .before .before .before .open-write .ensures) ∙ is-open _ _ _ _ _ (c .before .before .before .before .before .before .before .before .before .before .before .before .before .before .before .before .before .before .before .if1 .left) (c .before .before .before .before .before .before .before .before .before .before .before .before .before .before .before .before .before .before .if2 .left)
 
 pub opening-spec : {M : Type 1} → statement M
 opening-spec =
     tie.close
     (tie.spec
     mount-requires
-    number-requires
     quiet-requires
     same-length
     same-length-2
@@ -141,7 +116,6 @@ opening-spec =
     same-length-5
     returns
     adopt-requires
-    number-requires-2
     quiet-requires-2
     same-length-6
     same-length-7
@@ -149,11 +123,7 @@ opening-spec =
     same-length-9
     same-length-10
     returns-2
-    sub-open-write
-    part-open-write-start
-    part-open-write-end
     open-write-requires
-    number-requires-3
     same-length-11
     same-length-12
     same-length-13

@@ -1,3 +1,4 @@
+-- Carried by `columns`: a row of the table, read column by column.
 use Rattle.reader.specs.Format.{forms, formOf}
 use Rattle.reader.proofs.Ways.{columns}
 use borrow.Author.Needs.{needs}
@@ -6,71 +7,87 @@ use Rattle.reader.proofs.form_of.Tie as tie
 use Rattle.reader.proofs.form_of.Reads as reads
 use Rattle.reader.proofs.form_of.Lts as lts
 
--- src/lib.rt:120:15
-mul-t10 : tie.Need-mul-t10
-mul-t10 c = search needs
+-- src/lib.rt:123:15
+mul-t12 : tie.Need-mul-t12
+mul-t12 c = search needs
 
--- src/lib.rt:120:15
-array-read-t13 : tie.Need-array-read-t13
-array-read-t13 c = search needs
+-- src/lib.rt:123:15
+array-read-t15 : tie.Need-array-read-t15
+array-read-t15 c = search needs
 
--- src/lib.rt:121:21
-mul-t14 : tie.Need-mul-t14
-mul-t14 c = search needs
+-- src/lib.rt:124:21
+mul-t16 : tie.Need-mul-t16
+mul-t16 c = search needs
 
--- src/lib.rt:121:21
-array-read-t17 : tie.Need-array-read-t17
-array-read-t17 c = search needs
+-- src/lib.rt:124:21
+array-read-t19 : tie.Need-array-read-t19
+array-read-t19 c = search needs
 
--- src/lib.rt:122:13
-mul-t18 : tie.Need-mul-t18
-mul-t18 c = search needs
+-- src/lib.rt:125:13
+mul-t20 : tie.Need-mul-t20
+mul-t20 c = search needs
 
--- src/lib.rt:122:13
-array-read-t21 : tie.Need-array-read-t21
-array-read-t21 c = search needs
-
--- src/lib.rt:123:12
-mul-t22 : tie.Need-mul-t22
-mul-t22 c = search needs
-
--- src/lib.rt:123:12
-array-read-t25 : tie.Need-array-read-t25
-array-read-t25 c = search needs
-
--- src/lib.rt:124:15
-mul-t26 : tie.Need-mul-t26
-mul-t26 c = search needs
-
--- src/lib.rt:124:15
-array-read-t29 : tie.Need-array-read-t29
-array-read-t29 c = search needs
-
--- src/lib.rt:125:12
-mul-t30 : tie.Need-mul-t30
-mul-t30 c = search needs
-
--- src/lib.rt:125:12
-array-read-t33 : tie.Need-array-read-t33
-array-read-t33 c = search needs
+-- src/lib.rt:125:13
+array-read-t23 : tie.Need-array-read-t23
+array-read-t23 c = search needs
 
 -- src/lib.rt:126:12
-mul-t34 : tie.Need-mul-t34
-mul-t34 c = search needs
+mul-t24 : tie.Need-mul-t24
+mul-t24 c = search needs
 
 -- src/lib.rt:126:12
-array-read-t37 : tie.Need-array-read-t37
-array-read-t37 c = search needs
+array-read-t27 : tie.Need-array-read-t27
+array-read-t27 c = search needs
 
--- src/lib.rt:127:12
-mul-t38 : tie.Need-mul-t38
-mul-t38 c = search needs
+-- src/lib.rt:127:15
+mul-t28 : tie.Need-mul-t28
+mul-t28 c = search needs
 
--- src/lib.rt:127:12
-array-read-t41 : tie.Need-array-read-t41
-array-read-t41 c = search needs
+-- src/lib.rt:127:15
+array-read-t31 : tie.Need-array-read-t31
+array-read-t31 c = search needs
 
--- src/lib.rt:107:1
+-- src/lib.rt:128:21
+mul-t32 : tie.Need-mul-t32
+mul-t32 c = search needs
+
+-- src/lib.rt:128:21
+array-read-t35 : tie.Need-array-read-t35
+array-read-t35 c = search needs
+
+-- src/lib.rt:129:27
+mul-t36 : tie.Need-mul-t36
+mul-t36 c = search needs
+
+-- src/lib.rt:129:27
+array-read-t39 : tie.Need-array-read-t39
+array-read-t39 c = search needs
+
+-- src/lib.rt:130:20
+mul-t40 : tie.Need-mul-t40
+mul-t40 c = search needs
+
+-- src/lib.rt:130:20
+array-read-t43 : tie.Need-array-read-t43
+array-read-t43 c = search needs
+
+-- src/lib.rt:131:22
+mul-t44 : tie.Need-mul-t44
+mul-t44 c = search needs
+
+-- src/lib.rt:131:22
+array-read-t47 : tie.Need-array-read-t47
+array-read-t47 c = search needs
+
+-- src/lib.rt:132:20
+mul-t48 : tie.Need-mul-t48
+mul-t48 c = search needs
+
+-- src/lib.rt:132:20
+array-read-t51 : tie.Need-array-read-t51
+array-read-t51 c = search needs
+
+-- src/lib.rt:108:1
 returns : tie.Need-returns
 unfolding formOf
 returns c = columns forms (c .args .code)
@@ -79,20 +96,24 @@ pub form-of-spec : {M : Type 1} → statement M
 form-of-spec =
     tie.close
     (tie.spec
-    mul-t10
-    array-read-t13
-    mul-t14
-    array-read-t17
-    mul-t18
-    array-read-t21
-    mul-t22
-    array-read-t25
-    mul-t26
-    array-read-t29
-    mul-t30
-    array-read-t33
-    mul-t34
-    array-read-t37
-    mul-t38
-    array-read-t41
+    mul-t12
+    array-read-t15
+    mul-t16
+    array-read-t19
+    mul-t20
+    array-read-t23
+    mul-t24
+    array-read-t27
+    mul-t28
+    array-read-t31
+    mul-t32
+    array-read-t35
+    mul-t36
+    array-read-t39
+    mul-t40
+    array-read-t43
+    mul-t44
+    array-read-t47
+    mul-t48
+    array-read-t51
     returns)

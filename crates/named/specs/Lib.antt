@@ -1,0 +1,3 @@
+pub mod Public
+pub mod Stays
+pub mod Examples

@@ -1,0 +1,32 @@
+-- The law `on-front`: what the call left of the numbers that it was lent is at the front.
+use borrow.Author.Needs.{needs}
+use mathlib.Core.Path.{sym}
+use lib.Seq.{length-take-le}
+use Rattle.pool.proofs.Laws.{on-front}
+use Rattle.pool.proofs.on_front.Statement.{statement}
+use Rattle.pool.proofs.on_front.Tie as tie
+
+front-long : tie.Need-slice-aggregate-call
+front-long c = sym (length-take-le _ _ (c .before .before .before .before .before .before .before .before .before .before .before .before .pre))
+
+returns : tie.Need-returns
+returns c =
+    let at-call = c .before .before .before .before .before .before .before .before .before .before .before .before in
+    let at-args = at-call .before .before .before .before .before .before .before .before .before .before .before .before .before .before .before .before in
+    on-front _ _ _ _ _ _ _ _ _ _ _ (at-args .pre) (at-call .call .kept .1 .1 .1 .1 .1 .0) (at-call .call .ensures)
+
+pub on-front-spec : {M : Type 1} → statement M
+on-front-spec =
+    tie.close
+    (tie.spec
+    (λ c. search needs)
+    (λ c. search needs)
+    front-long
+    (λ c κs. search needs)
+    (λ c. search needs)
+    (λ c. search needs)
+    (λ c. search needs)
+    (λ c. search needs)
+    (λ c. search needs)
+    (λ c. search needs)
+    returns)
