@@ -53,15 +53,7 @@ fn unmount(nums: &mut [u64], names: &mut [u8], dirs: &mut [u8]) -> Pool
     rows::clear_rows(nums, names);
     let d = dirs.len();
     rows::zero_in(dirs, 0, d);
-    Pool {
-        rows: 0,
-        dir_rows: 0,
-        held: 0,
-        dirs: 0,
-        counter: 0,
-        free: 0,
-        queue: [0u8; 64],
-    }
+    mount::zero()
 }
 
 // Mounts the first `slots` slots of the device; whatever the rows held is gone.

@@ -161,7 +161,7 @@ fn empty(cap: usize, dir_cap: usize) -> Pool
 }
 
 // The record that a refused mount leaves, which is no pool.
-fn zero() -> Pool
+pub fn zero() -> Pool
     ensures { λ r. ⌜ r ≡ zeroPool ⌝ }
 {
     Pool {

@@ -15,6 +15,7 @@ use denote.Builtin.{u8}
 use denote.Array.{Array, array-vals, array-tells, array-makes}
 use denote.Steps.{owned}
 use denote.Struct.Laws as LL
+use Rattle.walk.proofs.Calls.{a-struct}
 use Rattle.device.specs.declared.Place.{Place}
 use Rattle.device.specs.declared.Geometry.{Geometry}
 use Rattle.device.proofs.Place as P
@@ -47,10 +48,10 @@ block-tells = array-tells u8 (uint-vals w8) (uint-tells w8) 512
 
 module _ {M : Type 1} {𝓤 : URA M} {H : Heap 𝓤} {A : Atoms 𝓤} {K : Type 0} {W : Given 𝓤 H A} {Γ : List (Item 𝓤)} {Gl : Goal 𝓤 H} where
   pub a-place : K → (p : Place) → Is placeT p (placeV p ∷ []) → Step K W (‵ (placeT .own p (placeV p ∷ [])) ∷ Γ) Gl Γ Gl
-  a-place t p is = owned t placeT (Is placeT) (LL.makes P.the-type P′.the-plain 𝓤 H A) p (placeV p ∷ []) is
+  a-place t p is = a-struct t P.the-type P′.the-laws P′.the-plain p is
 
   pub a-geometry : K → (g : Geometry) → Is geometryT g (geometryV g ∷ []) → Step K W (‵ (geometryT .own g (geometryV g ∷ [])) ∷ Γ) Gl Γ Gl
-  a-geometry t g is = owned t geometryT (Is geometryT) (LL.makes G.the-type G′.the-plain 𝓤 H A) g (geometryV g ∷ []) is
+  a-geometry t g is = a-struct t G.the-type G′.the-laws G′.the-plain g is
 
   pub a-block : K → (s : List ℕ) → Is blockT s (blockVs s) → Step K W (‵ (blockT .own s (blockVs s)) ∷ Γ) Gl Γ Gl
   a-block t s is = owned t blockT (Is blockT) (array-makes 𝓤 H A W u8 (uint-makes 𝓤 H A W w8) 512) s (blockVs s) is

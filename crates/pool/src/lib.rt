@@ -1,6 +1,7 @@
-// The pool's public face: the sixteen calls over slot rows that are "a lent run of records, one row a slot". One entry loads the records into flat
-// numbers, has crate dispatch make the call on those, and stores them back. So its contract is the flat call's, with the numbers of the records at
-// entry and at exit. Any input may come. More than 64 records are no pool's: they are refused before they are loaded.
+// The pool's public face: the sixteen calls over a lent place, "one small record", and slot rows that are "a lent run of records, one row a slot". One
+// entry loads the records into flat numbers, has crate dispatch make the call on those, and stores them back. So its contract is the flat call's, with
+// the place and the numbers of the records at entry and at exit. Any input may come. More than 64 records are no pool's: they are refused before they
+// are loaded.
 use calls::Call;
 use calls::Reply;
 use device::Geometry;
@@ -48,15 +49,7 @@ fn too_many(place: Place, names: &mut [u8], dirs: &mut [u8], pool: Pool, call: C
         rows::zero_in(names, 0, n);
         let d = dirs.len();
         rows::zero_in(dirs, 0, d);
-        let zero = Pool {
-            rows: 0,
-            dir_rows: 0,
-            held: 0,
-            dirs: 0,
-            counter: 0,
-            free: 0,
-            queue: [0u8; 64],
-        };
+        let zero = mount::zero();
         let refused = Answer::WrongShape;
         return calls::quiet(refused, place, zero);
     }

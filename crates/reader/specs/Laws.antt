@@ -1,6 +1,6 @@
 -- What holds of runs, operations and setups that were read.
 use Prim.Native.Nat.{ℕ, zero, suc, _+_, _-_, _*_, _^_, _<_, _≤_}
-use mathlib.Core.Path.{_≡_, refl, sym, ap, _∙_}
+use mathlib.Core.Path.{_≡_, refl, sym, ap, subst, _∙_}
 use mathlib.Core.Bool.{Bool, true, false, cond, _&&_, false≢true}
 use mathlib.Core.List.{List, [], _∷_}
 use native.Mathlib.Omega.{arith}
@@ -68,7 +68,7 @@ pub record Small (f : Form) : Type 0 where
   pub gives-count : f .«gives_count» ≤ 8
   pub gives-yes : f .«gives_yes» ≤ 8
 
-pub form-small : (code : ℕ) → Small (formOf code)
+form-small : (code : ℕ) → Small (formOf code)
 unfolding formOf
 form-small code = record {
   slot = below (λ f. f .slot) 8 forms (omega arith) refl code;
@@ -81,6 +81,9 @@ form-small code = record {
   gives-count = below (λ f. f .«gives_count») 8 forms (omega arith) refl code;
   gives-yes = below (λ f. f .«gives_yes») 8 forms (omega arith) refl code;
 }
+
+pub small : (code : ℕ) (f : Form) → f ≡ formOf code → Small f
+small code f e = subst Small (sym e) (form-small code)
 
 -- A number of w bytes.
 pub field-lt : (s : List ℕ) (i w k : ℕ) → Bytes s → w ≤ k → field s i w < 256 ^ k

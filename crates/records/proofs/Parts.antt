@@ -17,6 +17,7 @@ use denote.Array.{Array, array-vals, array-tells, array-makes}
 use denote.Slice.{Room}
 use denote.Steps.{only, owned}
 use denote.Struct.Laws as LL
+use Rattle.walk.proofs.Calls.{a-struct}
 use Rattle.records.specs.declared.Slot.{Slot}
 use Rattle.records.proofs.Slot as S
 use Rattle.records.proofs.Slot.Laws as S′
@@ -61,7 +62,7 @@ rows-room = (lit< tt, lit< tt)
 
 module _ {M : Type 1} {𝓤 : URA M} {H : Heap 𝓤} {A : Atoms 𝓤} {K : Type 0} {W : Given 𝓤 H A} {Γ : List (Item 𝓤)} {G : Goal 𝓤 H} where
   pub a-slot : K → (r : Slot) → Is slotT r (slotV r ∷ []) → Step K W (‵ (slotT .own r (slotV r ∷ [])) ∷ Γ) G Γ G
-  a-slot t r is = owned t slotT (Is slotT) (LL.makes S.the-type S′.the-plain 𝓤 H A) r (slotV r ∷ []) is
+  a-slot t r is = a-struct t S.the-type S′.the-laws S′.the-plain r is
 
   pub a-nums : K → (s : List ℕ) → Is numsT s (numsVs s) → Step K W (‵ (numsT .own s (numsVs s)) ∷ Γ) G Γ G
   a-nums t s is = owned t numsT (Is numsT) (array-makes 𝓤 H A W u64 (uint-makes 𝓤 H A W w64) 256) s (numsVs s) is

@@ -11,7 +11,6 @@ ghost use lib.ListN.{length, replicate};
 ghost use Rattle.device.specs.Device.{dev};
 ghost use Rattle.table.specs.State.{bufs};
 ghost use Rattle.steps.specs.World.{lent};
-ghost use Rattle.mount.specs.Mount.{zeroPool};
 ghost use Rattle.reader.specs.Format.{operations};
 ghost use Rattle.reader.specs.Laws.{Fine};
 ghost use Rattle.writer.specs.Writer.{shown, pours, poured};
@@ -147,21 +146,6 @@ fn no_dirs() -> [u8; 124356]
     [0u8; 124356]
 }
 
-// The record that is no pool.
-fn no_pool() -> Pool
-    ensures { λ r. ⌜ r ≡ zeroPool ⌝ }
-{
-    Pool {
-        rows: 0,
-        dir_rows: 0,
-        held: 0,
-        dirs: 0,
-        counter: 0,
-        free: 0,
-        queue: [0u8; 64],
-    }
-}
-
 // ---- the script
 
 // Runs the operations from `from` on, over rows of its own, and puts out the tables.
@@ -198,7 +182,7 @@ fn on_rows(
         &mut nums[..k],
         &mut names[..m],
         &mut dirs[..d],
-        no_pool(),
+        mount::zero(),
         script,
         from,
         out,

@@ -2,7 +2,8 @@
 --     calls-to     of a function that meets its contract: in front stand the tokens and what the arguments own; afterwards what it ensures, what is said of last values, and the tokens.
 --                  The result's machine value is written out and its relation is in hand, so what a result of plain data owns need not be carried
 --     copied       a `&[T]` is there twice, once for the call
---     a-number     a u64 or a usize is owned for nothing
+--     a-number     a u64 or a usize is owned for nothing, and so is
+--     a-struct     a struct of plain data
 --     ty           the type of a local
 -- Assumes `Given`.
 use mathlib.Core.Path.{refl, ap, subst}
@@ -25,6 +26,9 @@ use denote.Laws.{Is, Tells, shows}
 use denote.Signature.{typeAt, typesAt}
 use denote.Steps.{only, peeks, owned}
 use denote.Builtin.{u64}
+use denote.Struct.Declared.{Declared, fields, row}
+use denote.Struct.Struct.{Plains}
+use denote.Struct.Laws as LL
 use denote.Plain.{uint-makes}
 use denote.Triple.Call.{calls-at}
 use denote.Triple.Clauses.{Clauses, Ended, Lasts, atExit, lasts, closing}
@@ -63,3 +67,6 @@ module _ {M : Type 1} {𝓤 : URA M} {H : Heap 𝓤} {A : Atoms 𝓤} {K : Type 
 
   pub a-number : K → (n : ℕ) → n < 2 ^ 64 → Step K W (‵ (u64 .own n (vint w64 n ∷ [])) ∷ Γ) G Γ G
   a-number t n l = owned t u64 (Is u64) (uint-makes 𝓤 H A W w64) n (vint w64 n ∷ []) (refl, l)
+
+  pub a-struct : K → (T : Declared) (L : LL.Laws T) → Plains (fields T) → (d : T .D) → Is (row T) d (LL.vals T L d) → Step K W (‵ (row T .own d (LL.vals T L d)) ∷ Γ) G Γ G
+  a-struct t T L plain d is = owned t (row T) (Is (row T)) (LL.makes T plain 𝓤 H A) d (LL.vals T L d) is

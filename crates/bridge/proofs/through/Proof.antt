@@ -42,7 +42,7 @@ use denote.Triple.Spec.{Meets, tripleOf}
 use denote.Triple.Table.{entered, cited}
 use denote.Triple.Walked.{needs, Stays, stay-dropped, gave-slice, walkOf, goes-dropped, goes-gave-slice, walked, walk-meets}
 use denote.Exit.{yes}
-use Rattle.walk.proofs.Calls.{ty, calls-to}
+use Rattle.walk.proofs.Calls.{ty, calls-to, a-struct}
 use Rattle.walk.proofs.Facts.{ends, heard-both}
 use Rattle.walk.proofs.Lend.{anew, share, unshare}
 use Rattle.walk.proofs.Array.{lent-front, returned-front}
@@ -79,7 +79,8 @@ use Rattle.calls.proofs.Call.Laws as Ca′
 use Rattle.calls.proofs.Reply as Re
 use Rattle.calls.proofs.Reply.Laws as Re′
 use Rattle.dispatch.specs.Dispatch.{callP}
-use Rattle.pool.proofs.Parts.{geometryT, geometryV, placeT, placeV, poolT, poolV, callT, callV, replyV, a-struct, a-call}
+use Rattle.places.proofs.Parts.{geometryT, geometryV, placeT, placeV}
+use Rattle.pool.proofs.Parts.{poolT, poolV, callT, callV, replyV, a-call}
 use Rattle.bridge.proofs.Went.{went-through}
 use Rattle.pool.proofs.call as inner
 use Rattle.pool.proofs.call.Symbol as inner-def

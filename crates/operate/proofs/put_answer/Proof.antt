@@ -1,11 +1,9 @@
 -- Carried by `pours-then`: what is put out number by number is the whole answer. `near` keeps the place small.
-use mathlib.Core.Path.{_∙_, ap, sym, subst, _≡_}
+use mathlib.Core.Path.{_∙_, ap}
 use mathlib.Core.List.{List}
 use Prim.Native.Nat.{ℕ}
 use Rattle.le.specs.Le.{le}
-use Rattle.reader.specs.declared.Form.{Form}
-use Rattle.reader.specs.Format.{formOf}
-use Rattle.reader.specs.Laws.{Small, form-small}
+use Rattle.reader.specs.Laws.{small}
 use Rattle.writer.specs.Writer.{shown, pours}
 use Rattle.writer.specs.Laws.{after-pours, pours-then}
 use Rattle.operate.proofs.Ways.{answer-is, near}
@@ -20,9 +18,6 @@ use Rattle.operate.proofs.bit.Reads as bit-reads
 use Rattle.reader.proofs.form_of.Reads as form-of-reads
 use Rattle.writer.proofs.put_bytes.Reads as put-bytes-reads
 use Rattle.writer.proofs.put_le.Reads as put-le-reads
-
-small : (code : ℕ) (f : Form) → f ≡ formOf code → Small f
-small code f e = subst Small (sym e) (form-small code)
 
 -- src/lib.rt:166:9
 form-of-requires : tie.Need-form-of-requires

@@ -34,7 +34,7 @@ use denote.Triple.Spec.{Meets, tripleOf}
 use denote.Triple.Table.{entered, cited}
 use denote.Triple.Walked.{Stays, stay-dropped, stay-ref, gave-slice, walkOf, goes-dropped, goes-ref, goes-gave-slice, walked, walk-meets}
 use denote.Exit.{yes}
-use Rattle.walk.proofs.Calls.{calls-to}
+use Rattle.walk.proofs.Calls.{calls-to, a-struct}
 use Rattle.walk.proofs.Facts.{ends, shows-both}
 use Rattle.walk.proofs.Record.{taken, put-back}
 use Rattle.device.specs.declared.Geometry.{Geometry}
@@ -60,7 +60,8 @@ use Rattle.calls.proofs.Call.Laws as Ca′
 use Rattle.calls.proofs.Reply as Re
 use Rattle.calls.proofs.Reply.Laws as Re′
 use Rattle.dispatch.specs.Dispatch.{callP}
-use Rattle.pool.proofs.Parts.{geometryT, geometryV, placeT, placeV, poolT, poolV, callT, callV, replyT, replyV, a-struct, a-call}
+use Rattle.places.proofs.Parts.{geometryT, geometryV, placeT, placeV}
+use Rattle.pool.proofs.Parts.{poolT, poolV, callT, callV, replyT, replyV, a-call}
 use Rattle.pool.proofs.enter as inner
 use Rattle.pool.proofs.enter.Symbol as inner-def
 use Rattle.pool.proofs.enter.Symbol.{name as #pool·enter}

@@ -43,7 +43,7 @@ use denote.Triple.Spec.{Meets, tripleOf}
 use denote.Triple.Table.{entered, cited}
 use denote.Triple.Walked.{Stays, stay-dropped, gave-slice, walkOf, goes-dropped, goes-gave-slice, walked, walk-meets}
 use denote.Exit.{yes}
-use Rattle.walk.proofs.Calls.{ty, calls-to, a-number}
+use Rattle.walk.proofs.Calls.{ty, calls-to, a-number, a-struct}
 use Rattle.walk.proofs.Facts.{ends, heard-both}
 use Rattle.walk.proofs.Array.{lent-array, returned-array}
 use Rattle.walk.proofs.Lend.{anew, share, unshare, given-up}
@@ -86,7 +86,8 @@ use Rattle.calls.proofs.Reply as Re
 use Rattle.calls.proofs.Reply.Laws as Re′
 use Rattle.dispatch.specs.Dispatch.{callP}
 use Rattle.dispatch.specs.Laws.{isMount}
-use Rattle.pool.proofs.Parts.{geometryT, geometryV, placeT, placeV, poolT, poolV, callT, callV, replyT, replyV, a-struct, a-call}
+use Rattle.places.proofs.Parts.{geometryT, geometryV, placeT, placeV}
+use Rattle.pool.proofs.Parts.{poolT, poolV, callT, callV, replyT, replyV, a-call}
 use Rattle.pool.proofs.Laws.{lost-fits, few-rows, many-rows-are}
 use Rattle.pool.proofs.lost as lost
 use Rattle.pool.proofs.lost.Symbol as lost-def

@@ -1,15 +1,13 @@
-use mathlib.Core.Path.{_∙_, sym, subst, _≡_, ap}
-use mathlib.Core.Bool.{true, false, not, Bool}
-use Prim.Native.Nat.{ℕ, _+_, _≤_}
+use mathlib.Core.Path.{_∙_, sym, subst, _≡_}
+use mathlib.Core.Bool.{Bool}
+use Prim.Native.Nat.{ℕ, _≤_}
 use lib.ListN.{length}
-use lib.Dec.{leb}
 use borrow.Author.Tests.{not-true, not-false}
-use Rattle.reader.specs.declared.Form.{Form}
 use Rattle.reader.specs.declared.Span.{Span}
-use Rattle.reader.specs.Laws.{Small, form-small, Inside, span-if-inside}
+use Rattle.reader.specs.Laws.{small, span-if-inside}
 use Rattle.reader.proofs.Ways.{args-short, args-first, args-second, args-whole}
 use mathlib.Core.List.{List}
-use Rattle.reader.specs.Format.{formOf, spanIf}
+use Rattle.reader.specs.Format.{spanIf}
 use native.Mathlib.Omega.{arith}
 use borrow.Author.Needs.{needs}
 use Rattle.reader.proofs.args_of.Statement.{statement}
@@ -20,9 +18,6 @@ use Rattle.le.proofs.get_at.Reads as get-at-reads
 use Rattle.reader.proofs.form_of.Reads as form-of-reads
 use Rattle.reader.proofs.no_op.Reads as no-op-reads
 use Rattle.reader.proofs.run_if.Reads as run-if-reads
-
-small : (code : ℕ) (f : Form) → f ≡ formOf code → Small f
-small code f e = subst Small (sym e) (form-small code)
 
 ended : (s : List ℕ) (i : ℕ) (w : Bool) (a : Span) → i ≤ length s → a ≡ spanIf w s i → a .to ≤ length s
 ended s i w a h e = subst (λ (r : Span). r .to ≤ length s) (sym e) (span-if-inside w s i h .end)

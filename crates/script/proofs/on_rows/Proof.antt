@@ -16,7 +16,7 @@ use Rattle.script.proofs.on_rows.Lts as lts
 use Rattle.script.proofs.no_dirs.Reads as no-dirs-reads
 use Rattle.script.proofs.no_names.Reads as no-names-reads
 use Rattle.script.proofs.no_nums.Reads as no-nums-reads
-use Rattle.script.proofs.no_pool.Reads as no-pool-reads
+use Rattle.mount.proofs.zero.Reads as zero-reads
 use Rattle.script.proofs.run_all.Reads as run-all-reads
 
 -- src/lib.rt:183:13
@@ -80,8 +80,8 @@ slice-aggregate-run-all-3 : tie.Need-slice-aggregate-run-all-3
 slice-aggregate-run-all-3 c = sym (length-take-le (c .before .before .before .before .before .before .before .before .before .before .before .before .before .before .args .setup .«dir_rows» * 482) (c .before .before .before .before .before .before .no-dirs .result) (omega (arith, fresh-length 124356 0 (c .before .before .before .before .before .before .no-dirs .result) (c .before .before .before .before .before .before .no-dirs .ensures), c .before .before .before .before .before .before .before .before .before .before .before .before .before .before .pre .0 .dir-rows)))
 
 -- src/lib.rt:206:9
-no-pool-requires : tie.Need-no-pool-requires
-no-pool-requires c κs = search needs
+zero-requires : tie.Need-zero-requires
+zero-requires c κs = search needs
 
 -- src/lib.rt:192:9
 run-all-requires : tie.Need-run-all-requires
@@ -103,7 +103,7 @@ same-length-3 c = search needs
 returns : tie.Need-returns
 returns c =
     let u = c .before .before .before .before .before .before .before .before .before .before .before .before .before .before .before .before .before .before .before .before .before .before .before .before .before .before .args .setup in
-    let p = closed-parts _ _ _ _ (c .before .before .before .before .before .before .before .before .before .run-all .ensures ∙ ap (λ (y : Said). closed y (shown (c .before .before .before .before .before .before .before .before .before .before .before .before .before .before .before .before .before .before .before .before .before .before .before .before .before .before .args .out .now) 0)) (rows-are (c .before .before .before .before .before .before .before .before .before .before .before .before .before .before .before .before .before .before .before .before .before .before .before .before .before .before .args .script .now) u (c .before .before .before .before .before .before .before .before .before .before .before .before .before .before .before .before .before .before .before .before .before .before .before .before .before .before .args .bytes .now) (c .before .before .before .before .before .before .before .before .before .before .before .before .before .before .before .before .before .before .before .before .before .before .before .before .before .before .args .phys .now) (c .before .before .before .before .before .before .before .before .before .before .before .before .before .before .before .before .before .before .before .before .before .before .before .before .before .before .args .from) _ _ _ _ (c .before .before .before .before .before .before .before .before .before .before .before .no-pool .ensures)
+    let p = closed-parts _ _ _ _ (c .before .before .before .before .before .before .before .before .before .run-all .ensures ∙ ap (λ (y : Said). closed y (shown (c .before .before .before .before .before .before .before .before .before .before .before .before .before .before .before .before .before .before .before .before .before .before .before .before .before .before .args .out .now) 0)) (rows-are (c .before .before .before .before .before .before .before .before .before .before .before .before .before .before .before .before .before .before .before .before .before .before .before .before .before .before .args .script .now) u (c .before .before .before .before .before .before .before .before .before .before .before .before .before .before .before .before .before .before .before .before .before .before .before .before .before .before .args .bytes .now) (c .before .before .before .before .before .before .before .before .before .before .before .before .before .before .before .before .before .before .before .before .before .before .before .before .before .before .args .phys .now) (c .before .before .before .before .before .before .before .before .before .before .before .before .before .before .before .before .before .before .before .before .before .before .before .before .before .before .args .from) _ _ _ _ (c .before .before .before .before .before .before .before .before .before .before .before .zero .ensures)
     (fresh-front (u .rows * 4) 264 0 (c .before .before .before .before .before .before .before .before .before .before .before .before .before .before .before .before .before .before .before .before .no-nums .result) (c .before .before .before .before .before .before .before .before .before .before .before .before .before .before .before .before .before .before .before .before .no-nums .ensures) (omega (arith, c .before .before .before .before .before .before .before .before .before .before .before .before .before .before .before .before .before .before .before .before .before .before .before .before .before .before .pre .0 .rows)))
     (fresh-front (u .rows * 480) 31680 0 (c .before .before .before .before .before .before .before .before .before .before .before .before .before .before .before .before .before .before .before .no-names .result) (c .before .before .before .before .before .before .before .before .before .before .before .before .before .before .before .before .before .before .before .no-names .ensures) (omega (arith, c .before .before .before .before .before .before .before .before .before .before .before .before .before .before .before .before .before .before .before .before .before .before .before .before .before .before .pre .0 .rows)))
     (fresh-front (u .«dir_rows» * 482) 124356 0 (c .before .before .before .before .before .before .before .before .before .before .before .before .before .before .before .before .before .before .no-dirs .result) (c .before .before .before .before .before .before .before .before .before .before .before .before .before .before .before .before .before .before .no-dirs .ensures) (omega (arith, c .before .before .before .before .before .before .before .before .before .before .before .before .before .before .before .before .before .before .before .before .before .before .before .before .before .before .pre .0 .dir-rows))))) in
@@ -128,7 +128,7 @@ on-rows-spec =
     slice-aggregate-run-all-2
     array-borrow-prefix-dirs
     slice-aggregate-run-all-3
-    no-pool-requires
+    zero-requires
     run-all-requires
     same-length
     same-length-2
