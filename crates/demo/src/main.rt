@@ -2,6 +2,8 @@
 // free. They are laid on a device and mounted: the higher generation holds the name, and the slot that lost is free again. Each line is
 // printed from what was decoded, or from what the pool answered. No contract can speak of what is written, so all that is worked
 // out stands in functions with contracts of their own.
+use calls::Call;
+use calls::Reply;
 use device::Geometry;
 use device::Place;
 use header::Decoded;
@@ -48,44 +50,101 @@ fn lay(bytes: &mut [u8], i: usize, block: [u8; 512]) {
     }
 }
 
+// One call through the pool's face, on slots of 1,024 bytes, under an empty plan.
+fn ask(
+    bytes: &mut [u8],
+    phys: &mut [u64],
+    nums: &mut [u64],
+    names: &mut [u8],
+    dirs: &mut [u8],
+    pool: Pool,
+    call: Call,
+    path: &[u8],
+) -> Reply {
+    let mut none = [0u8; 1];
+    bridge::on_numbers(
+        bytes,
+        phys,
+        Geometry { size: 1024 },
+        b"",
+        Place { at: 0, last: 0 },
+        nums,
+        names,
+        dirs,
+        pool,
+        call,
+        path,
+        b"",
+        &mut none,
+    )
+}
+
 // Mounts the four slots, and prints who holds the name and which slots are free.
 fn mount(bytes: &mut [u8]) {
     let mut phys = [1024u64; 4];
     let mut nums = [0u64; 16];
     let mut names = [0u8; 1920];
     let mut dirs = [0u8; 1928];
-    let mounted = intake::mount(
+    let before = mount::zero();
+    let mounted = ask(
         bytes,
         &mut phys,
-        Geometry { size: 1024 },
-        b"",
-        Place { at: 0, last: 0 },
         &mut nums,
         &mut names,
         &mut dirs,
-        4,
+        before,
+        Call::Mount { slots: 4 },
+        b"",
     );
     let answer = mounted.answer;
     let pool = mounted.pool;
     say(b"mount: ");
     number(gate::number(answer) as u64);
     say(b"\n");
-    tell_holder(&nums, &names, &dirs, pool);
+    tell_holder(bytes, &mut phys, &mut nums, &mut names, &mut dirs, pool);
     tell_queue(pool);
 }
 
 // Prints which slot holds the name.
-fn tell_holder(nums: &[u64], names: &[u8], dirs: &[u8], pool: Pool) {
-    let reader = named::open_read(nums, names, dirs, pool, b"deck/07/tile");
+fn tell_holder(
+    bytes: &mut [u8],
+    phys: &mut [u64],
+    nums: &mut [u64],
+    names: &mut [u8],
+    dirs: &mut [u8],
+    pool: Pool,
+) {
+    let reader = ask(
+        bytes,
+        phys,
+        nums,
+        names,
+        dirs,
+        pool,
+        Call::OpenRead,
+        b"deck/07/tile",
+    );
     let slot = reader.slot;
     let generation = reader.generation;
-    let len = file::file_len(nums, names, dirs, pool, slot, generation);
+    let file = ask(
+        bytes,
+        phys,
+        nums,
+        names,
+        dirs,
+        pool,
+        Call::FileLen {
+            slot: slot,
+            generation: generation,
+        },
+        b"",
+    );
     say(b"deck/07/tile: slot ");
     number(slot as u64);
     say(b", generation ");
     number(generation);
     say(b", length ");
-    number(len.len);
+    number(file.len);
     say(b"\n");
 }
 

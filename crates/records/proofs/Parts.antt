@@ -1,4 +1,4 @@
--- What the walks of this crate and of crate entry share: the types of a record, of the flat numbers and of an array of records, their machine values, and steps that own one for nothing.
+-- What the walks of this crate and of the crates above it share: the types of a record, of the flat numbers and of an array of records, their machine values, and steps that own one for nothing.
 -- The steps assume `Given`.
 use mathlib.Core.List.{List, [], _∷_}
 use Prim.Native.Nat.{ℕ}
