@@ -6,7 +6,7 @@ use mathlib.Core.List.{List, _++_}
 use native.Mathlib.Omega.{arith}
 use borrow.Author.Tests.{eq-eqb, ne-eqb, le-leb, lt-leb}
 use lib.Dec.{eqb}
-use lib.ListN.{length, take, drop, replicate, length-replicate, replicate-append-replicate}
+use lib.ListN.{length, take, replicate, length-replicate, replicate-append-replicate}
 use lib.Seq.{take-at}
 use Rattle.le.specs.Le.{le}
 use Rattle.le.specs.Fields.{length-le}
@@ -23,7 +23,7 @@ use Rattle.calls.specs.declared.Call.the-variants.{Mount, Adopt, OpenWrite, Ope
 use Rattle.calls.specs.declared.Reply.{Reply}
 use Rattle.calls.specs.Calls.{Told, Called, called}
 use Rattle.dispatch.specs.Dispatch.{callP}
-use Rattle.operate.specs.Operate.{bit, onHandle, onPath, callOf, answerM, room, saidOf, opM, reached, spoken}
+use Rattle.operate.specs.Operate.{bit, onHandle, onPath, callOf, answerM, room, saidOf, answeredM, opM, Reached, reached, spoken}
 
 -- ---- the rows
 
@@ -127,17 +127,17 @@ fresh-front n m x w e h =
     ap (take n) (e ∙ ap (λ (j : ℕ). replicate j x) (sym k) ∙ sym (replicate-append-replicate n (m - n) x)) ∙ take-at (replicate n x) (replicate (m - n) x) n (length-replicate n x)
 
 -- the call, and its answer put out
-pub step-is : (s plan : List ℕ) (g : Geometry) (o : Op) (l : Lent) (t′ : Told) (buf buf₀ : List ℕ) (x x′ : Shown)
-    → called t′ buf ≡ callP plan g (callOf o) (part s (o .first)) (part s (o .second)) buf₀ l → buf₀ ≡ replicate (room o) 170
-    → x′ ≡ pours (saidOf o (called t′ buf) .answer) x → reached x′ (t′ .left) ≡ spoken (opM s plan g o l) x
-unfolding opM spoken
-step-is s plan g o l t′ buf buf₀ x x′ e f h =
-    ap (λ (u : Shown). reached u (t′ .left)) h
-    ∙ ap (λ (c : Called). spoken (saidOf o c) x) (e ∙ ap (λ (b : List ℕ). callP plan g (callOf o) (part s (o .first)) (part s (o .second)) b l) f)
+pub answered-is : (s plan : List ℕ) (g : Geometry) (o : Op) (l : Lent) (t′ : Told) (buf buf₀ : List ℕ) (x x′ : Shown)
+    → called t′ buf ≡ callP plan g (callOf o) (part s (o .first)) (part s (o .second)) buf₀ l → x′ ≡ pours (saidOf o (called t′ buf) .answer) x
+    → reached x′ (t′ .left) ≡ spoken (answeredM s plan g o buf₀ l) x
+unfolding answeredM spoken
+answered-is s plan g o l t′ buf buf₀ x x′ e h = ap (λ (u : Shown). reached u (t′ .left)) h ∙ ap (λ (c : Called). spoken (saidOf o c) x) e
+
+-- with the buffer that the operation asks for
+pub step-is : (s plan : List ℕ) (g : Geometry) (o : Op) (l : Lent) (buf : List ℕ) (x : Shown) (y : Reached) → buf ≡ replicate (room o) 170 → y ≡ spoken (answeredM s plan g o buf l) x
+    → y ≡ spoken (opM s plan g o l) x
+unfolding opM
+step-is s plan g o l buf x y f e = e ∙ ap (λ (b : List ℕ). spoken (answeredM s plan g o b l) x) f
 
 pub fresh-length : (m x : ℕ) (w : List ℕ) → w ≡ replicate m x → length w ≡ m
 fresh-length m x w e = ap length e ∙ length-replicate m x
-
--- a front that was lent and came back
-pub front-back : (n : ℕ) (b w : List ℕ) → length b ≡ n → take n (b ++ drop n w) ≡ b
-front-back n b w e = take-at b (drop n w) n e

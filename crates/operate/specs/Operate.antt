@@ -74,9 +74,13 @@ saidOf o c =
     let t = c .told in
     record { answer = answerM o (t .number) (t .slot) (t .generation) (t .len) (t .count) (t .yes) (c .buf); left = t .left }
 
+-- The call is handed this buffer.
+unfoldable pub answeredM : List ℕ → List ℕ → Geometry → Op → List ℕ → Lent → Said
+answeredM s plan g o buf l = saidOf o (callP plan g (callOf o) (part s (o .first)) (part s (o .second)) buf l)
+
 -- The buffer is "all 0xAA before the call".
 unfoldable pub opM : List ℕ → List ℕ → Geometry → Op → Lent → Said
-opM s plan g o l = saidOf o (callP plan g (callOf o) (part s (o .first)) (part s (o .second)) (replicate (room o) 170) l)
+opM s plan g o l = answeredM s plan g o (replicate (room o) 170) l
 
 -- ---- output and buffers together
 

@@ -19,7 +19,7 @@ ghost use Rattle.reader.specs.Laws.{Held};
 ghost use Rattle.writer.specs.Writer.{shown, pours};
 ghost use Rattle.calls.specs.Calls.{replied, called};
 ghost use Rattle.dispatch.specs.Dispatch.{callP};
-ghost use Rattle.operate.specs.Operate.{bit, onHandle, onPath, callOf, answerM, room, opM, reached, spoken};
+ghost use Rattle.operate.specs.Operate.{bit, onHandle, onPath, callOf, answerM, room, answeredM, opM, reached, spoken};
 
 // The place and the record after an operation, and how much was put out.
 pub struct Ran {
@@ -174,6 +174,53 @@ fn put_answer(op: Op, reply: Reply, buf: &[u8], out: &mut [u8], at: usize) -> us
     writer::put_bytes(out, f, buf)
 }
 
+// Makes the call of an operation with this buffer, and puts out its answer.
+fn answered(
+    bytes: &mut [u8],
+    phys: &mut [u64],
+    geometry: Geometry,
+    plan: &[u8],
+    place: Place,
+    nums: &mut [u64],
+    names: &mut [u8],
+    dirs: &mut [u8],
+    pool: Pool,
+    script: &[u8],
+    op: Op,
+    buf: &mut [u8],
+    out: &mut [u8],
+    at: usize,
+) -> Ran
+    requires { ⌜ Held (now script) op × (op .code < 17) × (length (now buf) < 65536) × (at < 2 ^ 62) ⌝ }
+    ensures op { λ r. ⌜ reached (shown (now (out .exit)) (r .at)) (lent (dev (now (bytes .exit)) (now (phys .exit)) (r .place)) (bufs (r .pool) (now (nums .exit)) (now (names .exit)) (now (dirs .exit)))) ≡ spoken (answeredM (now (script .entry)) (now (plan .entry)) geometry op (now (buf .entry)) (lent (dev (now (bytes .entry)) (now (phys .entry)) place) (bufs pool (now (nums .entry)) (now (names .entry)) (now (dirs .entry))))) (shown (now (out .entry)) at) ⌝ }
+    ensures few { λ r. ⌜ r .at ≤ at + 65600 ⌝ }
+{
+    let reply = ask(
+        bytes,
+        phys,
+        geometry,
+        plan,
+        place,
+        nums,
+        names,
+        dirs,
+        pool,
+        script,
+        op,
+        buf,
+    );
+    let after = reply.place;
+    let left = reply.pool;
+    let to = put_answer(op, reply, buf, out, at);
+    Ran {
+        place: after,
+        pool: left,
+        at: to,
+    }
+}
+
+// ---- the buffer
+
 // How long a buffer the call is handed.
 fn room(op: Op) -> usize
     requires { ⌜ op .code < 17 ⌝ }
@@ -193,7 +240,7 @@ fn fresh() -> [u8; 65536]
     [170u8; 65536]
 }
 
-// Runs one operation, and puts out its answer.
+// Runs one operation, and puts out its answer. The large array is made only where a buffer is asked for: to fill it costs more than most calls.
 pub fn step(
     bytes: &mut [u8],
     phys: &mut [u64],
@@ -213,9 +260,28 @@ pub fn step(
     ensures op { λ r. ⌜ reached (shown (now (out .exit)) (r .at)) (lent (dev (now (bytes .exit)) (now (phys .exit)) (r .place)) (bufs (r .pool) (now (nums .exit)) (now (names .exit)) (now (dirs .exit)))) ≡ spoken (opM (now (script .entry)) (now (plan .entry)) geometry op (lent (dev (now (bytes .entry)) (now (phys .entry)) place) (bufs pool (now (nums .entry)) (now (names .entry)) (now (dirs .entry))))) (shown (now (out .entry)) at) ⌝ }
     ensures few { λ r. ⌜ r .at ≤ at + 65600 ⌝ }
 {
-    let mut work = fresh();
     let n = room(op);
-    let reply = ask(
+    if n == 0 {
+        let mut none = [170u8; 0];
+        return answered(
+            bytes,
+            phys,
+            geometry,
+            plan,
+            place,
+            nums,
+            names,
+            dirs,
+            pool,
+            script,
+            op,
+            &mut none,
+            out,
+            at,
+        );
+    }
+    let mut work = fresh();
+    answered(
         bytes,
         phys,
         geometry,
@@ -228,13 +294,7 @@ pub fn step(
         script,
         op,
         &mut work[..n],
-    );
-    let after = reply.place;
-    let left = reply.pool;
-    let to = put_answer(op, reply, &work[..n], out, at);
-    Ran {
-        place: after,
-        pool: left,
-        at: to,
-    }
+        out,
+        at,
+    )
 }

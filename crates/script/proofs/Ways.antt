@@ -5,7 +5,8 @@ use mathlib.Core.Bool.{Bool, true, false, cond}
 use mathlib.Core.List.{List, [], _∷_, _++_, append-assoc}
 use native.Mathlib.Omega.{arith}
 use borrow.Author.Tests.{eq-eqb, ne-eqb}
-use lib.ListN.{length}
+use lib.ListN.{length, take, drop}
+use lib.Seq.{take-at}
 use Rattle.lists.specs.Runs.{tab}
 use Rattle.le.specs.Le.{Bytes}
 use Rattle.device.specs.declared.Geometry.{Geometry}
@@ -150,3 +151,7 @@ module _ (s plan : List ℕ) (g : Geometry) (from : ℕ) (l₀ : Lent) where
           few = omega (arith, G .few, n, S .further);
           same = run-turn s plan g (G .left) i o e l l′ t t′ (omega (arith, G .enough, S .further, S .held .second-end)) h f ∙ G .same;
         }
+
+-- a front that was lent and came back
+pub front-back : (n : ℕ) (b w : List ℕ) → length b ≡ n → take n (b ++ drop n w) ≡ b
+front-back n b w e = take-at b (drop n w) n e

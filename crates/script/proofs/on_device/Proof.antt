@@ -5,9 +5,9 @@ use lib.ListN.{length, take, drop}
 use lib.Seq.{length-take-le, length-front}
 use borrow.Author.Tests.{not-true, not-false}
 use Rattle.writer.specs.Writer.{shown, pours}
-use Rattle.operate.proofs.Ways.{fresh-front, fresh-length, front-back}
+use Rattle.operate.proofs.Ways.{fresh-front, fresh-length}
 use Rattle.script.specs.Script.{whole, ranM}
-use Rattle.script.proofs.Ways.{device-none, device-run, starts-inside}
+use Rattle.script.proofs.Ways.{device-none, device-run, starts-inside, front-back}
 use native.Mathlib.Omega.{arith}
 use borrow.Author.Needs.{needs}
 use Rattle.script.proofs.on_device.Statement.{statement}
