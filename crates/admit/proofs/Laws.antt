@@ -14,22 +14,14 @@ use Rattle.le.specs.Fields.{field-back}
 use Rattle.lists.specs.Same.{sameBytes, same-bytes-refl, same-length, same-bytes-other}
 use Rattle.text.specs.Greatest.{greatest}
 use Rattle.lists.specs.Runs.{any-not, any-none}
-use Rattle.path.specs.Path.{samePath, tail8, mixed, keyOf}
-use Rattle.path.specs.Theorems.{same-path-refl, key-same}
+use Rattle.path.specs.Path.{textKey, keyOf}
+use Rattle.path.specs.Theorems.{same-path-refl, key-other}
 use Rattle.rows.specs.Rows.{Row, at, isBound, pathOf, holds, find}
 use Rattle.rows.specs.Find.{holds-unbound, holds-path, find-is}
 use Rattle.dirs.specs.Rows.{dirAt}
 use Rattle.admit.specs.Test.{isZero, part, dirFits, isAt, hasNum, firstOk, cellOk}
-use Rattle.admit.specs.Keys.{Keys, textKey, isDir, hasDir, Tail}
+use Rattle.admit.specs.Keys.{Keys, isDir, hasDir, Tail}
 use Rattle.admit.proofs.Turns.{and-no, and-on}
-
--- paths of different keys are different
-pub key-other : (a b : List ℕ) → (keyOf a ≡ keyOf b → ⊥) → samePath a b ≡ false
-key-other a b n = go (samePath a b) refl
-  where
-    go : (t : Bool) → samePath a b ≡ t → t ≡ false
-    go true e = absurd (n (key-same a b e))
-    go false e = refl
 
 -- where no key before i is key i, none before it has the key of what stands at i
 keys-apart : (g : List ℕ → ℕ) (f : ℕ → List ℕ) (n : ℕ) (ks : List ℕ) (i : ℕ) → Keys g f n ks → i < n → hasNum ks i (getD ks i 0) ≡ false → (j : ℕ) → j < i → g (f j) ≡ g (f i) → ⊥
@@ -120,11 +112,7 @@ module _ (rs : List Row) (n : ℕ) (long : length rs ≡ n) (q : List ℕ) (k : 
   unfolding cellOk
   cell-last r h b e = and-on _ _ (not r) (lt-ltb (getD q k 0) (length rs) (omega arith)) (and-on _ _ (not r) (ap not b) (ap not e))
 
--- ---- keys and lengths of texts
-
-pub text-key-is : (s : List ℕ) (x r : ℕ) → x ≡ tail8 s → r ≡ (x % 4294967296 + x / 4294967296 * 31 + length s % 65536) % 4294967296 → r ≡ textKey s
-unfolding textKey mixed
-text-key-is s x r h e = e ∙ ap (λ (y : ℕ). (y % 4294967296 + y / 4294967296 * 31 + length s % 65536) % 4294967296) h
+-- ---- lengths of texts
 
 pub length-other : (b p : List ℕ) (j k : ℕ) → k ≡ length (dirAt b j) → (k ≡ length p → ⊥) → false ≡ isDir b p j
 unfolding isDir

@@ -17,9 +17,9 @@ use Rattle.lists.specs.Distinct.{In}
 use Rattle.path.specs.Path.{components, normal, ancestors}
 use Rattle.path.specs.Walk.{Above, upFrom}
 use Rattle.path.specs.Theorems.{same-normal}
-use Rattle.spelling.specs.Spelling.{idleSlash, hasIdle, isNormal}
-use Rattle.spelling.specs.Laws.{normal-by-bytes}
-use Rattle.spelling.proofs.Turns.{short}
+use Rattle.path.specs.Spelling.{idleSlash, hasIdle, isNormal}
+use Rattle.path.specs.SpellingLaws.{normal-by-bytes}
+use Rattle.path.proofs.Slashes.{short}
 use Rattle.dirs.specs.Dirs.{hasPath}
 use Rattle.dirs.specs.Rows.{dirAt, dirsOf}
 use Rattle.dirs.specs.Joined.{in-has, has-one, has-in, has-normal}

@@ -6,9 +6,10 @@ use mathlib.Core.Bool.{Bool, true, false, cond, _&&_, false≢true}
 use native.Mathlib.Omega.{arith}
 use native.Mathlib.Nat.{add-zero, add-sub-cancel-left}
 use lib.Dec.{eqb, leb}
-use lib.ListN.{length, take, drop, getD, replicate, length-drop, length-take, take-append-drop}
+use lib.ListN.{length, take, drop, getD, replicate, length-drop, length-take, take-append-drop, List·getD-eq-default}
 use lib.Seq.{length-take-le, take-all, drop-drop, getD-drop}
 use borrow.Author.Tests.{leb-true, eqb-true, eq-eqb, le-leb}
+pub use Rattle.lists.specs.Bools.{both, and-of}
 use Rattle.lists.specs.Runs.{allOf, tab, all-at, getD-tab}
 use Rattle.lists.specs.Same.{sameBytes, same-bytes-refl, same-bytes-eq}
 use Rattle.lists.specs.Blocks.{pad, pad-fits, cat, length-cat, getD-pad, flat-at, flat-part}
@@ -22,18 +23,11 @@ use Rattle.dirs.specs.Rows.{dirRow, dirAt, dirsOf, flatDirs, FlatDirs}
 use Rattle.dirs.specs.RowLaws.{row-wide, length-dirs, dir-short, dir-length, dir-part}
 use Rattle.table.specs.declared.Pool.{Pool}
 use Rattle.table.specs.State.{Bufs}
-use Rattle.table.specs.Reads.{Reads, past-end}
+use Rattle.table.specs.Reads.{Reads}
 use Rattle.admit.specs.Test.{sizesOk, isZero, part, restOk, bareOk, rowFits, dirFits, fitsOk}
 use Rattle.admit.specs.Keys.{Sized}
 
 -- ---- tests
-
-pub both : (a b : Bool) → (a && b) ≡ true → (a ≡ true) × (b ≡ true)
-both true b e = (refl, e)
-both false b e = absurd (false≢true e)
-
-pub and-of : (a b : Bool) → a ≡ true → b ≡ true → (a && b) ≡ true
-and-of a b p q = rw p q
 
 -- what holds at every index below n
 pub below : (f : ℕ → Bool) (n j : ℕ) → allOf f 0 n ≡ true → j < n → f j ≡ true
@@ -42,16 +36,16 @@ below f n j e h = all-at f 0 n j e (omega arith) (omega arith)
 pub sized : (q : Pool) (l n d : ℕ) → sizesOk q l n d ≡ true → Sized q l n d
 unfolding sizesOk
 sized q l n d e =
-    let e1 = both (leb (q .rows) 64) _ e in
-    let e2 = both (leb (q .«dir_rows») 256) _ (e1 .1) in
-    let e3 = both (leb (q .held) (q .rows)) _ (e2 .1) in
-    let e4 = both (leb (q .dirs) (q .«dir_rows»)) _ (e3 .1) in
+    let e1 = both (leb (q .chosen .rows) 64) _ e in
+    let e2 = both (leb (q .chosen .«dir_rows») 256) _ (e1 .1) in
+    let e3 = both (leb (q .held) (q .chosen .rows)) _ (e2 .1) in
+    let e4 = both (leb (q .dirs) (q .chosen .«dir_rows»)) _ (e3 .1) in
     let e5 = both (leb (q .free) 64) _ (e4 .1) in
     let e6 = both (leb 1 (q .counter)) _ (e5 .1) in
     let e7 = both (leb (q .counter) (2 ^ 63)) _ (e6 .1) in
-    let e8 = both (eqb l (q .rows * 4)) _ (e7 .1) in
-    let e9 = both (eqb n (q .rows * 480)) _ (e8 .1) in
-    let e10 = both (eqb d (q .«dir_rows» * 482)) _ (e9 .1) in
+    let e8 = both (eqb l (q .chosen .rows * 4)) _ (e7 .1) in
+    let e9 = both (eqb n (q .chosen .rows * 480)) _ (e8 .1) in
+    let e10 = both (eqb d (q .chosen .«dir_rows» * 482)) _ (e9 .1) in
     record {
       rows = leb-true _ _ (e1 .0);
       dir-rows = leb-true _ _ (e2 .0);
@@ -225,13 +219,13 @@ rows-flat-of cap n l s h a b x y f =
 
 -- the same of whole buffers
 pub fit-rows : (b : Bufs) → Sized (b .pool) (length (b .nums)) (length (b .names)) (length (b .dirs)) → restOk b ≡ true → fitsOk b ≡ true
-    → Flat (b .pool .rows) (b .pool .held) (b .nums) (b .names)
+    → Flat (b .pool .chosen .rows) (b .pool .held) (b .nums) (b .names)
 unfolding restOk fitsOk
 fit-rows b S r f =
     let r1 = both (isZero (part (b .nums) (b .pool .held * 4) (length (b .nums)))) _ r in
     let r2 = both (isZero (part (b .names) (b .pool .held * 480) (length (b .names)))) _ (r1 .1) in
     let f1 = both (allOf (rowFits (b .nums) (b .names)) 0 (b .pool .held)) _ f in
-    rows-flat-of (b .pool .rows) (b .pool .held) (b .nums) (b .names) (S .held) (S .nums-long) (S .names-long) (r1 .0) (r2 .0) (f1 .0)
+    rows-flat-of (b .pool .chosen .rows) (b .pool .held) (b .nums) (b .names) (S .held) (S .nums-long) (S .names-long) (r1 .0) (r2 .0) (f1 .0)
 
 -- and the other way round
 pub row-tested : (b : Bufs) → Reads b → (i : ℕ) → i < b .pool .held → rowFits (b .nums) (b .names) i ≡ true
@@ -303,14 +297,14 @@ dirs-flat-of cap m b h a z f =
     }
 
 pub fit-dirs : (b : Bufs) → Sized (b .pool) (length (b .nums)) (length (b .names)) (length (b .dirs)) → restOk b ≡ true → fitsOk b ≡ true
-    → FlatDirs (b .pool .«dir_rows») (b .pool .dirs) (b .dirs)
+    → FlatDirs (b .pool .chosen .«dir_rows») (b .pool .dirs) (b .dirs)
 unfolding restOk fitsOk
 fit-dirs b S r f =
     let r1 = both (isZero (part (b .nums) (b .pool .held * 4) (length (b .nums)))) _ r in
     let r2 = both (isZero (part (b .names) (b .pool .held * 480) (length (b .names)))) _ (r1 .1) in
     let r3 = both (isZero (part (b .dirs) (b .pool .dirs * 482) (length (b .dirs)))) _ (r2 .1) in
     let f1 = both (allOf (rowFits (b .nums) (b .names)) 0 (b .pool .held)) _ f in
-    dirs-flat-of (b .pool .«dir_rows») (b .pool .dirs) (b .dirs) (S .dirs) (S .dirs-long) (r3 .0) (f1 .1)
+    dirs-flat-of (b .pool .chosen .«dir_rows») (b .pool .dirs) (b .dirs) (S .dirs) (S .dirs-long) (r3 .0) (f1 .1)
 
 -- and the other way round
 pub dir-tested : (cap m : ℕ) (b : List ℕ) → FlatDirs cap m b → (j : ℕ) → j < m → dirFits b j ≡ true
@@ -335,7 +329,7 @@ dir-tested cap m b F j h =
         ∙ ap (λ (x : ℕ). getD (pad (cap * 482) (cat dirRow ds)) x 0) z
         ∙ flat-at dirRow 482 row-wide cap ds j (suc (suc (i - (j * 482 + 2)))) [] (omega (arith, F .few)) (omega arith) (omega arith)
         ∙ getD-pad 480 d (i - (j * 482 + 2)) u
-        ∙ past-end d (i - (j * 482 + 2)) (omega arith)
+        ∙ List·getD-eq-default d 0 {n = i - (j * 482 + 2)} (omega arith)
 
 -- ---- the queue
 

@@ -7,23 +7,23 @@ use mathlib.Core.Bool.{Bool, true, false}
 use lib.ListN.{length, getD}
 use Rattle.lists.specs.Runs.{allOf, anyOf}
 use Rattle.lists.specs.Same.{sameBytes}
-use Rattle.path.specs.Path.{normal, tail8, mixed}
+use Rattle.path.specs.Path.{normal}
 use Rattle.dirs.specs.Rows.{dirAt, dirsOf}
 use Rattle.table.specs.declared.Pool.{Pool}
 use Rattle.admit.specs.Test.{upHeld, dirOk}
 
 -- What `sizesOk` says.
 pub record Sized (q : Pool) (l n d : ℕ) : Type 0 where
-  pub rows : q .rows ≤ 64
-  pub dir-rows : q .«dir_rows» ≤ 256
-  pub held : q .held ≤ q .rows
-  pub dirs : q .dirs ≤ q .«dir_rows»
+  pub rows : q .chosen .rows ≤ 64
+  pub dir-rows : q .chosen .«dir_rows» ≤ 256
+  pub held : q .held ≤ q .chosen .rows
+  pub dirs : q .dirs ≤ q .chosen .«dir_rows»
   pub free : q .free ≤ 64
   pub begun : 1 ≤ q .counter
   pub counted : q .counter ≤ 2 ^ 63
-  pub nums-long : l ≡ q .rows * 4
-  pub names-long : n ≡ q .rows * 480
-  pub dirs-long : d ≡ q .«dir_rows» * 482
+  pub nums-long : l ≡ q .chosen .rows * 4
+  pub names-long : n ≡ q .chosen .rows * 480
+  pub dirs-long : d ≡ q .chosen .«dir_rows» * 482
   pub queue-long : length (q .queue) ≡ 64
 
 -- ---- keys
@@ -32,10 +32,6 @@ pub record Sized (q : Pool) (l n d : ℕ) : Type 0 where
 pub record Keys (h : List ℕ → ℕ) (f : ℕ → List ℕ) (n : ℕ) (ks : List ℕ) : Type 0 where
   pub room : n ≤ length ks
   pub key : (j : ℕ) → j < n → getD ks j 0 ≡ h (f j)
-
--- The key of a text, whatever it spells, is worked out from its last eight bytes and its length.
-unfoldable pub textKey : List ℕ → ℕ
-textKey s = mixed (tail8 s) (length s)
 
 -- ---- directories by bytes
 

@@ -88,7 +88,7 @@ first-tested s ok i = go (isBound (at (s .rows) i)) refl
     own b j h true e =
         let d = holds-bound (pathOf (at (s .rows) i)) (at (s .rows) j) e in
         let q : samePath (pathOf (at (s .rows) j)) (pathOf (at (s .rows) i)) ≡ true = sym (holds-path (pathOf (at (s .rows) i)) (at (s .rows) j) d) ∙ e in
-        absurd (omega (arith, ok .apart i j b d (sym (same-path _ _ .0 q))))
+        absurd (omega (arith, ok .slots .apart i j b d (sym (same-path _ _ .0 q))))
 
     go : (t : Bool) → isBound (at (s .rows) i) ≡ t → cond t (eqb (find (pathOf (at (s .rows) i)) (s .rows)) i) true ≡ true
     go false b = refl
@@ -97,7 +97,7 @@ first-tested s ok i = go (isBound (at (s .rows) i)) refl
 
 row-passes : (s : State) → Valid s → (i : ℕ) → rowOk (s .counter) (s .rows) i ≡ true
 unfolding rowOk
-row-passes s ok i = and-of _ _ (lt-ltb _ _ (ok .young i)) (and-of _ _ (ok .text i) (first-tested s ok i))
+row-passes s ok i = and-of _ _ (lt-ltb _ _ (ok .slots .young i)) (and-of _ _ (ok .slots .text i) (first-tested s ok i))
 
 -- ---- numbers in a list
 
@@ -164,10 +164,10 @@ cell-passes : (s : State) (q : List ℕ) (n k : ℕ) → Valid s → s .queue �
 unfolding cellOk isAt
 cell-passes s q n k ok e w h =
     let m : In (getD q k 0) (s .queue) = subst (λ (l : List ℕ). In (getD q k 0) l) (sym e) (take-in q n k h (omega arith)) in
-    let d : Distinct (take n q) = subst Distinct e (ok .once) in
+    let d : Distinct (take n q) = subst Distinct e (ok .waiting .once) in
     let z : hasNum q k (getD q k 0) ≡ false = any-none (isAt q (getD q k 0)) 0 k (λ j a b. ne-eqb _ _ (once-take q n d w j k (omega arith) h)) in
-    let y = ok .idle (getD q k 0) m in
-    and-of _ _ (lt-ltb _ _ (ok .inside (getD q k 0) m)) (rw (y, z))
+    let y = ok .waiting .idle (getD q k 0) m in
+    and-of _ _ (lt-ltb _ _ (ok .waiting .inside (getD q k 0) m)) (rw (y, z))
 
 -- ---- directories
 
@@ -284,23 +284,32 @@ is-pool-of b e =
     let t : length (take (q .free) (q .queue)) ≡ q .free = length-take-le (q .free) (q .queue) (omega (arith, S .free, S .queue-long)) in
     record {
       canon = rw (k, m, t, F .nums, F .names, G .flat, fit-queue b S (e2 .0));
-      valid = record {
-        small = S .rows;
-        dirs-small = S .dir-rows;
-        few = omega (arith, S .held);
-        dirs-few = omega (arith, S .dirs);
-        text = rows-text (q .counter) (q .held) rs k (v1 .0);
-        short = F .short;
-        apart = rows-apart (q .counter) (q .held) rs k (v1 .0);
-        young = rows-young (q .counter) (q .held) rs k (v1 .0) (S .begun);
-        begun = S .begun;
-        counted = S .counted;
-        inside = queue-inside rs (q .queue) (q .free) (v2 .0);
-        idle = queue-idle rs (q .queue) (q .free) (v2 .0);
-        once = queue-once rs (q .queue) (q .free) (v2 .0);
-        dirs-short = dirs-short (b .dirs) (q .dirs);
-        directories = directories-of (b .dirs) (q .dirs) (v2 .1);
-      };
+      valid =
+          record {
+            counts =
+                record {
+                  small = S .rows;
+                  dirs-small = S .dir-rows;
+                  few = omega (arith, S .held);
+                  dirs-few = omega (arith, S .dirs);
+                  begun = S .begun;
+                  counted = S .counted;
+                };
+            slots =
+                record {
+                  text = rows-text (q .counter) (q .held) rs k (v1 .0);
+                  short = F .short;
+                  apart = rows-apart (q .counter) (q .held) rs k (v1 .0);
+                  young = rows-young (q .counter) (q .held) rs k (v1 .0) (S .begun);
+                };
+            waiting =
+                record {
+                  inside = queue-inside rs (q .queue) (q .free) (v2 .0);
+                  idle = queue-idle rs (q .queue) (q .free) (v2 .0);
+                  once = queue-once rs (q .queue) (q .free) (v2 .0);
+                };
+            directories = record { short = dirs-short (b .dirs) (q .dirs); dirs = directories-of (b .dirs) (q .dirs) (v2 .1) };
+          };
     }
 
 -- and every pool passes.
@@ -316,10 +325,10 @@ pool-tested b P =
     (and-of _ _ (zero-part (b .dirs) _ _ (λ j p h. R .dirs-rest j p)) (zero-part (q .queue) _ _ (λ j p h. R .queue-rest j p)))))
     (and-of _ _
     (and-of _ _ (all-intro _ 0 (q .held) (λ j p h. row-tested b R j (omega arith)))
-    (all-intro _ 0 (q .dirs) (λ j p h. dir-tested (q .«dir_rows») (q .dirs) (b .dirs) (pool-dirs b P) j (omega arith))))
+    (all-intro _ 0 (q .dirs) (λ j p h. dir-tested (q .chosen .«dir_rows») (q .dirs) (b .dirs) (pool-dirs b P) j (omega arith))))
     (and-of _ _ (all-intro _ 0 (q .held) (λ j p h. row-passes (view b) (P .valid) j))
     (and-of _ _ (all-intro _ 0 (q .free) (λ j p h. cell-passes (view b) (q .queue) (q .free) j (P .valid) refl (omega (arith, R .free, R .held, R .rows, R .queue-long)) (omega arith)))
-    (all-intro _ 0 (q .dirs) (λ j p h. dir-passes (b .dirs) (q .dirs) j (P .valid .directories) (omega arith)))))))
+    (all-intro _ 0 (q .dirs) (λ j p h. dir-passes (b .dirs) (q .dirs) j (P .valid .directories .dirs) (omega arith)))))))
 
 -- The test says exactly what a pool is.
 pub pool-exactly : (b : Bufs) → isPool b ≡ true ↔ IsPool b

@@ -22,9 +22,10 @@ use Rattle.table.specs.State.{Bufs}
 -- The counts are those of a pool, and the buffers are as long as the record says. A record's queue has 64 cells by its type.
 unfoldable pub sizesOk : Pool → ℕ → ℕ → ℕ → Bool
 sizesOk q l n d =
-    leb (q .rows) 64 && (leb (q .«dir_rows») 256 && (leb (q .held) (q .rows) && (leb (q .dirs) (q .«dir_rows») && (leb (q .free) 64
+    leb (q .chosen .rows) 64 && (leb (q .chosen .«dir_rows») 256
+    && (leb (q .held) (q .chosen .rows) && (leb (q .dirs) (q .chosen .«dir_rows») && (leb (q .free) 64
     && (leb 1 (q .counter) && (leb (q .counter) (2 ^ 63)
-    && (eqb l (q .rows * 4) && (eqb n (q .rows * 480) && (eqb d (q .«dir_rows» * 482) && eqb (length (q .queue)) 64)))))))))
+    && (eqb l (q .chosen .rows * 4) && (eqb n (q .chosen .rows * 480) && (eqb d (q .chosen .«dir_rows» * 482) && eqb (length (q .queue)) 64)))))))))
 
 -- ---- nothing but the view
 

@@ -1,5 +1,5 @@
-// Whether a record and its rows are a pool: what refusal 1 of every public call asks (01, "Numbers that come back"). The Rust has no such test:
-// its tables are its own. Nothing is refused here and nothing is taken for granted: any record and any buffers may come.
+// Whether a record and its rows are a pool: what refusal 1 of every public call asks (01, "Numbers that come back"). The Rust has no such
+// test: its tables are its own. Nothing is refused here and nothing is taken for granted: any record and any buffers may come.
 // Every lent byte is read, so no loop over bytes has an early exit, and paths are compared only where their keys agree.
 ghost use mathlib.Core.Path.{_≡_};
 ghost use mathlib.Core.Bool.{_&&_, _||_};
@@ -9,12 +9,13 @@ ghost use lib.ListN.{length, getD};
 ghost use Rattle.lists.specs.Runs.{allOf};
 ghost use Rattle.lists.specs.Same.{sameBytes};
 ghost use Rattle.text.specs.Greatest.{greatest};
-ghost use Rattle.path.specs.Path.{tail8, keyOf};
+ghost use Rattle.path.specs.Path.{textKey, keyOf};
 ghost use Rattle.rows.specs.Rows.{at, pathOf, rowsOf, Flat};
 ghost use Rattle.dirs.specs.Rows.{dirAt};
 ghost use Rattle.table.specs.State.{bufs};
-ghost use Rattle.admit.specs.Test.{sizesOk, restOk, bareOk, rowFits, dirFits, firstOk, rowOk, hasNum, cellOk, dirOk, fitsOk, viewOk, isPool};
-ghost use Rattle.admit.specs.Keys.{Sized, Keys, textKey, isDir, hasDir, Tail, Upright, Fine, Judged};
+ghost use Rattle.admit.specs.Test.{sizesOk, restOk, bareOk, rowFits, dirFits, firstOk, rowOk, hasNum, cellOk, dirOk};
+ghost use Rattle.admit.specs.Test.{fitsOk, viewOk, isPool};
+ghost use Rattle.admit.specs.Keys.{Sized, Keys, isDir, hasDir, Tail, Upright, Fine, Judged};
 use table::Pool;
 
 // ---- sizes and zeros
@@ -23,16 +24,16 @@ use table::Pool;
 fn sizes_ok(pool: Pool, nums: usize, names: usize, dirs: usize) -> bool
     ensures { λ r. ⌜ r ≡ sizesOk pool nums names dirs ⌝ }
 {
-    if 64 < pool.rows {
+    if 64 < pool.chosen.rows {
         return false;
     }
-    if 256 < pool.dir_rows {
+    if 256 < pool.chosen.dir_rows {
         return false;
     }
-    if pool.rows < pool.held {
+    if pool.chosen.rows < pool.held {
         return false;
     }
-    if pool.dir_rows < pool.dirs {
+    if pool.chosen.dir_rows < pool.dirs {
         return false;
     }
     if 64 < pool.free {
@@ -44,14 +45,14 @@ fn sizes_ok(pool: Pool, nums: usize, names: usize, dirs: usize) -> bool
     if 0x8000_0000_0000_0000 < pool.counter {
         return false;
     }
-    let rows = pool.rows;
+    let rows = pool.chosen.rows;
     if nums != rows * 4 {
         return false;
     }
     if names != rows * 480 {
         return false;
     }
-    let dir_rows = pool.dir_rows;
+    let dir_rows = pool.chosen.dir_rows;
     dirs == dir_rows * 482
 }
 
@@ -235,7 +236,10 @@ fn row_keys(nums: &[u64], names: &[u8], cap: usize, n: usize, keys: &mut [u32])
 
 // Whether row i is unbound, or no row before it has its path. Only where a key before it is the same are paths compared.
 fn first_ok(nums: &[u64], names: &[u8], keys: &[u32], cap: usize, n: usize, i: usize) -> bool
-    requires { ⌜ Flat cap n (now nums) (now names) × Keys keyOf (λ j. pathOf (at (rowsOf (now nums) (now names) n) j)) n (now keys) × (i < n) ⌝ }
+    requires { ⌜
+        Flat cap n (now nums) (now names)
+        × Keys keyOf (λ j. pathOf (at (rowsOf (now nums) (now names) n) j)) n (now keys)
+        × (i < n) ⌝ }
     ensures { λ r. ⌜ r ≡ firstOk (rowsOf (now (nums .entry)) (now (names .entry)) n) i ⌝ }
 {
     if !rows::is_bound(nums, names, cap, n, i) {
@@ -251,7 +255,10 @@ fn first_ok(nums: &[u64], names: &[u8], keys: &[u32], cap: usize, n: usize, i: u
 
 // Whether row i is below the counter c, and its path is text and its own.
 fn row_ok(nums: &[u64], names: &[u8], keys: &[u32], cap: usize, n: usize, c: u64, i: usize) -> bool
-    requires { ⌜ Flat cap n (now nums) (now names) × Keys keyOf (λ j. pathOf (at (rowsOf (now nums) (now names) n) j)) n (now keys) × (i < n) ⌝ }
+    requires { ⌜
+        Flat cap n (now nums) (now names)
+        × Keys keyOf (λ j. pathOf (at (rowsOf (now nums) (now names) n) j)) n (now keys)
+        × (i < n) ⌝ }
     ensures { λ r. ⌜ r ≡ rowOk c (rowsOf (now (nums .entry)) (now (names .entry)) n) i ⌝ }
 {
     if c <= rows::row_generation(nums, names, cap, n, i) {
@@ -363,26 +370,6 @@ fn same_run(a: &[u8], b: &[u8]) -> bool
     same
 }
 
-// The last eight bytes of a text as a number, or as many as it has.
-fn last_eight(s: &[u8]) -> u64
-    ensures { λ r. ⌜ r ≡ tail8 (now (s .entry)) ⌝ }
-{
-    let n = s.len();
-    if n < 8 {
-        return le::get_at(s, 0, n);
-    }
-    le::get_at(s, n - 8, 8)
-}
-
-// The key of a text, whatever it spells.
-fn text_key(s: &[u8]) -> u32
-    ensures { λ r. ⌜ r ≡ textKey (now (s .entry)) ⌝ }
-{
-    let x = last_eight(s);
-    let n = (s.len() % 65536) as u64;
-    ((x % 4294967296 + x / 4294967296 * 31 + n) % 4294967296) as u32
-}
-
 // The key of directory j.
 fn dir_key(dirs: &[u8], j: usize) -> u32
     requires { ⌜ j * 482 + 482 ≤ length (now dirs) ⌝ }
@@ -390,7 +377,7 @@ fn dir_key(dirs: &[u8], j: usize) -> u32
 {
     let k = dirs::dir_len(dirs, j);
     let at = j * 482 + 2;
-    text_key(&dirs[at..at + k])
+    path::text_key(&dirs[at..at + k])
 }
 
 // The keys of the directories.
@@ -407,7 +394,11 @@ fn dir_keys(dirs: &[u8], m: usize, keys: &mut [u32])
 
 // Whether directory j is p, whose key is f, byte for byte.
 fn dir_is(dirs: &[u8], keys: &[u32], j: usize, f: u32, p: &[u8]) -> bool
-    requires { ⌜ (j * 482 + 482 ≤ length (now dirs)) × (j < length (now keys)) × (getD (now keys) j 0 ≡ textKey (dirAt (now dirs) j)) × (f ≡ textKey (now p)) ⌝ }
+    requires { ⌜
+        (j * 482 + 482 ≤ length (now dirs))
+        × (j < length (now keys))
+        × (getD (now keys) j 0 ≡ textKey (dirAt (now dirs) j))
+        × (f ≡ textKey (now p)) ⌝ }
     ensures { λ r. ⌜ r ≡ isDir (now (dirs .entry)) (now (p .entry)) j ⌝ }
 {
     if keys[j] != f {
@@ -441,7 +432,7 @@ fn has_near(dirs: &[u8], keys: &[u32], m: usize, j: usize, p: &[u8]) -> bool
     requires { ⌜ (m * 482 ≤ length (now dirs)) × Keys textKey (dirAt (now dirs)) m (now keys) × (j < m) ⌝ }
     ensures { λ r. ⌜ r ≡ hasDir (now (dirs .entry)) m (now (p .entry)) ⌝ }
 {
-    let f = text_key(p);
+    let f = path::text_key(p);
     if 0 < j {
         if dir_is(dirs, keys, j - 1, f, p) {
             return true;
@@ -490,7 +481,7 @@ fn up_held(dirs: &[u8], keys: &[u32], m: usize, j: usize, x: &[u8]) -> bool
 {
     let e = path::above(x);
     let k = tail_at(x, e);
-    if !spelling::is_normal(&x[k..]) {
+    if !path::is_normal(&x[k..]) {
         return false;
     }
     if e == 0 {
@@ -547,10 +538,12 @@ fn directories_ok(dirs: &[u8], m: usize) -> bool
 
 // Whether what the buffers hold is as a pool's should be.
 fn view_ok(nums: &[u64], names: &[u8], dirs: &[u8], pool: Pool) -> bool
-    requires { ⌜ Sized pool (length (now nums)) (length (now names)) (length (now dirs)) × Flat (pool .rows) (pool .held) (now nums) (now names) ⌝ }
+    requires { ⌜
+        Sized pool (length (now nums)) (length (now names)) (length (now dirs))
+        × Flat (pool .chosen .rows) (pool .held) (now nums) (now names) ⌝ }
     ensures { λ r. ⌜ r ≡ viewOk (bufs pool (now (nums .entry)) (now (names .entry)) (now (dirs .entry))) ⌝ }
 {
-    let cap = pool.rows;
+    let cap = pool.chosen.rows;
     let n = pool.held;
     let m = pool.dirs;
     let free = pool.free;

@@ -1,1 +1,2 @@
+-- What a call through records comes to.
 pub mod Went

@@ -13,16 +13,17 @@ use Rattle.steps.specs.World.{lent}
 use Rattle.records.specs.declared.Slot.{Slot}
 use Rattle.records.specs.Records.{numsOf}
 use Rattle.records.specs.Whole.{wholeRows, spreadOf, nums-spread}
-use Rattle.calls.specs.declared.Call.{Call}
-use Rattle.calls.specs.declared.Reply.{Reply}
-use Rattle.calls.specs.Calls.{replied, called}
-use Rattle.dispatch.specs.Dispatch.{callP}
+use Rattle.calls_gate.specs.declared.Call.{Call}
+use Rattle.calls_gate.specs.declared.Reply.{Reply}
+use Rattle.calls_gate.specs.Replies.{replied}
+use Rattle.calls_gate.specs.Calls.{callP}
 
 module _ (plan : List ℕ) (g : Geometry) (c : Call) (one two buf : List ℕ) (d : Dev) (q : Pool) (s names dirs : List ℕ) where
   -- rs are the records of the numbers s, ws those that the call left, and s′ the numbers that were put back
-  pub went-through : (r : Reply) (b h m n f s′ : List ℕ) (rs ws : List Slot) → wholeRows s ≡ true → rs ≡ spreadOf s → length ws ≡ length s / 4 → s′ ≡ numsOf (take (length s / 4) (ws ++ drop (length s / 4) rs))
-      → called (replied r b h (numsOf ws) m n) f ≡ callP plan g c one two buf (lent d (bufs q (numsOf (take (length s / 4) rs)) names dirs))
-      → called (replied r b h s′ m n) f ≡ callP plan g c one two buf (lent d (bufs q s names dirs))
+  pub went-through : (r : Reply) (b h m n f s′ : List ℕ) (rs ws : List Slot) → wholeRows s ≡ true → rs ≡ spreadOf s
+      → length ws ≡ length s / 4 → s′ ≡ numsOf (take (length s / 4) (ws ++ drop (length s / 4) rs))
+      → replied r b h (numsOf ws) m n f ≡ callP plan g c one two buf (lent d (bufs q (numsOf (take (length s / 4) rs)) names dirs))
+      → replied r b h s′ m n f ≡ callP plan g c one two buf (lent d (bufs q s names dirs))
   went-through r b h m n f s′ rs ws whole made long put e =
-      ap (λ (x : List ℕ). called (replied r b h x m n) f) (put ∙ ap numsOf (take-at ws (drop (length s / 4) rs) (length s / 4) long))
+      ap (λ (x : List ℕ). replied r b h x m n f) (put ∙ ap numsOf (take-at ws (drop (length s / 4) rs) (length s / 4) long))
       ∙ e ∙ ap (λ (x : List ℕ). callP plan g c one two buf (lent d (bufs q x names dirs))) (nums-spread s rs whole made)

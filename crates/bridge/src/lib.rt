@@ -1,18 +1,17 @@
-// Callers that hold flat numbers, and the place by value, come over this to the pool's face: the numbers are made records, the call is made over those, and
-// their numbers are put back. The contract is the flat call's. Any input may come.
-use calls::Call;
-use calls::Reply;
+// Callers that hold flat numbers, and the place by value, come over this to the pool's face: the numbers are made records, the call is made
+// over those, and their numbers are put back. The contract is the flat call's. Any input may come.
+use calls_gate::Call;
+use calls_gate::Reply;
 use device::Geometry;
 use device::Place;
 use table::Pool;
 ghost use mathlib.Core.Path.{_≡_};
 ghost use mathlib.Core.Bool.{true};
-ghost use Rattle.device.specs.Device.{dev};
-ghost use Rattle.table.specs.State.{bufs};
-ghost use Rattle.steps.specs.World.{lent};
+ghost use Rattle.steps.specs.World.{before, after};
 ghost use Rattle.records.specs.Whole.{wholeRows};
-ghost use Rattle.calls.specs.Calls.{replied, called};
-ghost use Rattle.dispatch.specs.Dispatch.{callP};
+ghost use Rattle.calls_gate.specs.Answers.{numberOf};
+ghost use Rattle.calls_gate.specs.Replies.{came};
+ghost use Rattle.calls_gate.specs.Calls.{callP};
 
 // The call of whole rows of numbers.
 fn through(
@@ -31,7 +30,10 @@ fn through(
     buf: &mut [u8],
 ) -> Reply
     requires { ⌜ wholeRows (now nums) ≡ true ⌝ }
-    ensures { λ r. ⌜ called (replied r (now (bytes .exit)) (now (phys .exit)) (now (nums .exit)) (now (names .exit)) (now (dirs .exit))) (now (buf .exit)) ≡ callP (now (plan .entry)) geometry call (now (first .entry)) (now (second .entry)) (now (buf .entry)) (lent (dev (now (bytes .entry)) (now (phys .entry)) place) (bufs pool (now (nums .entry)) (now (names .entry)) (now (dirs .entry)))) ⌝ }
+    ensures { λ r. ⌜
+        came (numberOf (r .answer)) (r .told) (after bytes phys (r .place) nums names dirs (r .pool)) (now (buf .exit))
+        ≡ callP (now (plan .entry)) geometry call (now (first .entry)) (now (second .entry)) (now (buf .entry))
+        (before bytes phys place nums names dirs pool) ⌝ }
 {
     let n = nums.len() / 4;
     let mut rows = records::rows_of(nums);
@@ -72,10 +74,13 @@ pub fn on_numbers(
     second: &[u8],
     buf: &mut [u8],
 ) -> Reply
-    ensures { λ r. ⌜ called (replied r (now (bytes .exit)) (now (phys .exit)) (now (nums .exit)) (now (names .exit)) (now (dirs .exit))) (now (buf .exit)) ≡ callP (now (plan .entry)) geometry call (now (first .entry)) (now (second .entry)) (now (buf .entry)) (lent (dev (now (bytes .entry)) (now (phys .entry)) place) (bufs pool (now (nums .entry)) (now (names .entry)) (now (dirs .entry)))) ⌝ }
+    ensures { λ r. ⌜
+        came (numberOf (r .answer)) (r .told) (after bytes phys (r .place) nums names dirs (r .pool)) (now (buf .exit))
+        ≡ callP (now (plan .entry)) geometry call (now (first .entry)) (now (second .entry)) (now (buf .entry))
+        (before bytes phys place nums names dirs pool) ⌝ }
 {
     if !records::whole_rows(nums) {
-        return dispatch::call(
+        return calls::make(
             bytes,
             phys,
             geometry,

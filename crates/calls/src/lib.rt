@@ -1,185 +1,216 @@
-// The sixteen public calls as one: a call is an enum with its numbers, and one reply has room for what any of them tells. Beside a call come two
-// runs of bytes and a buffer: `first` is the path, or the bytes that are written; `second` is the path that a file is renamed to; `buf` is what a read
-// or a listing fills. A call takes of them what it needs. Here are the calls on files, in groups; crate dispatch has those on directories, and
-// finds the group. Each group goes by the call's code, the last of its calls for any other code.
+// The sixteen public calls as one. Crate calls_gate has the calls and the tests 1, 2 and 3, which are made once, by its table; crate
+// calls_path makes the calls on a path that pass them. Here are the others, and the call as a whole.
+use calls_gate::Call;
+use calls_gate::Reply;
+use calls_gate::Told;
+use calls_path::Went;
 use device::Geometry;
 use device::Place;
-use gate::Answer;
+use table::Chosen;
 use table::Pool;
 ghost use mathlib.Core.Path.{_≡_};
 ghost use Rattle.device.specs.Device.{dev};
 ghost use Rattle.table.specs.State.{bufs};
-ghost use Rattle.steps.specs.World.{lent};
-ghost use Rattle.calls.specs.Calls.{plainly, handled, codedOf, replied, quietly, called, openingM, readingM, handlingM, movingM};
+ghost use Rattle.steps.specs.World.{lent, before, after};
+ghost use Rattle.calls_gate.specs.Table.{refusalOf};
+ghost use Rattle.calls_gate.specs.Replies.{came, replies};
+ghost use Rattle.calls_gate.specs.Calls.{innerM, callP};
 
-// A call with its numbers.
-pub enum Call {
-    Mount {
-        slots: usize,
-    },
-    Adopt {
-        slots: usize,
-    },
-    OpenWrite {
-        keep: bool,
-    },
-    OpenRead,
-    ReadAt {
-        slot: usize,
-        generation: u64,
-        at: u64,
-    },
-    WriteAt {
-        slot: usize,
-        generation: u64,
-        at: u64,
-    },
-    SetLen {
-        slot: usize,
-        generation: u64,
-        len: u64,
-    },
-    FileLen {
-        slot: usize,
-        generation: u64,
-    },
-    Sync {
-        slot: usize,
-        generation: u64,
-    },
-    SyncDir,
-    Rename,
-    RemoveFile,
-    CreateDirAll,
-    ReadDir,
-    Exists,
-    Metadata,
-}
-
-// What a call comes to: its answer, a handle and a length, how many bytes it gave, yes or no, and the place and the record after it. What a call
-// does not tell is zero.
-pub struct Reply {
-    pub answer: Answer,
-    pub slot: usize,
-    pub generation: u64,
-    pub len: u64,
-    pub count: usize,
-    pub yes: bool,
-    pub place: Place,
-    pub pool: Pool,
-}
-
-// A call as numbers alone: its code, in the order above from 1 on, and its numbers; those it does not have are zero. `at` is an offset or a length.
-pub struct Coded {
-    pub code: usize,
-    pub slots: usize,
-    pub keep: bool,
-    pub slot: usize,
-    pub generation: u64,
-    pub at: u64,
-}
-
-fn plain(code: usize) -> Coded
-    ensures { λ r. ⌜ r ≡ plainly code ⌝ }
-{
-    Coded {
-        code: code,
-        slots: 0,
-        keep: false,
-        slot: 0,
-        generation: 0,
-        at: 0,
-    }
-}
-
-fn on_handle(code: usize, slot: usize, generation: u64, at: u64) -> Coded
-    ensures { λ r. ⌜ r ≡ handled code slot generation at ⌝ }
-{
-    Coded {
-        code: code,
-        slots: 0,
-        keep: false,
-        slot: slot,
-        generation: generation,
-        at: at,
-    }
-}
-
-// The code of a call, and its numbers.
-pub fn numbers_of(call: Call) -> Coded
-    ensures { λ r. ⌜ r ≡ codedOf call ⌝ }
+// The call itself, where nothing of the table refuses it.
+fn inner(
+    bytes: &mut [u8],
+    phys: &mut [u64],
+    geometry: Geometry,
+    plan: &[u8],
+    place: Place,
+    nums: &mut [u64],
+    names: &mut [u8],
+    dirs: &mut [u8],
+    pool: Pool,
+    call: Call,
+    first: &[u8],
+    second: &[u8],
+    buf: &mut [u8],
+) -> Went
+    requires { ⌜ refusalOf geometry call (now first) (now second)
+        (lent (dev (now bytes) (now phys) place) (bufs pool (now nums) (now names) (now dirs))) ≡ 0 ⌝ }
+    ensures { λ r.
+        ⌜ came (r .out) (r .told) (after bytes phys (r .place) nums names dirs (r .pool)) (now (buf .exit))
+        ≡ innerM (now (plan .entry)) geometry call (now (first .entry)) (now (second .entry)) (now (buf .entry))
+        (before bytes phys place nums names dirs pool) ⌝ }
 {
     match call {
-        Call::Mount { slots } => Coded {
-            code: 1,
-            slots: slots,
-            keep: false,
-            slot: 0,
-            generation: 0,
-            at: 0,
-        },
-        Call::Adopt { slots } => Coded {
-            code: 2,
-            slots: slots,
-            keep: false,
-            slot: 0,
-            generation: 0,
-            at: 0,
-        },
-        Call::OpenWrite { keep } => Coded {
-            code: 3,
-            slots: 0,
-            keep: keep,
-            slot: 0,
-            generation: 0,
-            at: 0,
-        },
-        Call::OpenRead => plain(4),
+        Call::Mount { slots } => {
+            let chosen = Chosen {
+                rows: nums.len() / 4,
+                dir_rows: dirs.len() / 482,
+            };
+            let d = mount::mount_rows(
+                bytes,
+                phys,
+                geometry,
+                plan,
+                place,
+                nums,
+                names,
+                dirs,
+                chosen,
+                slots,
+            );
+            let after = d.place;
+            let left = d.pool;
+            return calls_path::quiet(d.out, after, left);
+        }
+        Call::Adopt { slots } => {
+            let d = mount::adopt(
+                bytes,
+                phys,
+                geometry,
+                plan,
+                place,
+                nums,
+                names,
+                dirs,
+                pool,
+                slots,
+            );
+            let after = d.place;
+            let left = d.pool;
+            return calls_path::quiet(d.out, after, left);
+        }
         Call::ReadAt {
             slot,
             generation,
             at,
-        } => on_handle(5, slot, generation, at),
+        } => {
+            let d = handles::read_at(
+                bytes,
+                phys,
+                geometry,
+                plan,
+                place,
+                nums,
+                names,
+                dirs,
+                pool,
+                slot,
+                generation,
+                at,
+                buf,
+            );
+            let after = d.place;
+            return Went {
+                out: d.out,
+                told: Told {
+                    slot: 0,
+                    generation: 0,
+                    len: 0,
+                    count: d.count,
+                    yes: false,
+                },
+                place: after,
+                pool: pool,
+            };
+        }
         Call::WriteAt {
             slot,
             generation,
             at,
-        } => on_handle(6, slot, generation, at),
+        } => {
+            let d = handles::write_at(
+                bytes,
+                phys,
+                geometry,
+                plan,
+                place,
+                nums,
+                names,
+                dirs,
+                pool,
+                slot,
+                generation,
+                at,
+                first,
+            );
+            let after = d.place;
+            return calls_path::quiet(d.out, after, pool);
+        }
         Call::SetLen {
             slot,
             generation,
             len,
-        } => on_handle(7, slot, generation, len),
-        Call::FileLen { slot, generation } => on_handle(8, slot, generation, 0),
-        Call::Sync { slot, generation } => on_handle(9, slot, generation, 0),
-        Call::SyncDir => plain(10),
-        Call::Rename => plain(11),
-        Call::RemoveFile => plain(12),
-        Call::CreateDirAll => plain(13),
-        Call::ReadDir => plain(14),
-        Call::Exists => plain(15),
-        Call::Metadata => plain(16),
+        } => {
+            let d = handles::set_len(
+                bytes,
+                phys,
+                geometry,
+                plan,
+                place,
+                nums,
+                names,
+                dirs,
+                pool,
+                slot,
+                generation,
+                len,
+            );
+            let after = d.place;
+            return calls_path::quiet(d.out, after, pool);
+        }
+        Call::FileLen { slot, generation } => {
+            let d = handles::file_len(nums, names, dirs, pool, slot, generation);
+            return Went {
+                out: d.out,
+                told: Told {
+                    slot: 0,
+                    generation: 0,
+                    len: d.len,
+                    count: 0,
+                    yes: false,
+                },
+                place: place,
+                pool: pool,
+            };
+        }
+        Call::Sync { slot, generation } => {
+            let d = handles::sync(
+                bytes,
+                phys,
+                geometry,
+                plan,
+                place,
+                nums,
+                names,
+                dirs,
+                pool,
+                slot,
+                generation,
+            );
+            let after = d.place;
+            return calls_path::quiet(d.out, after, pool);
+        }
+        _ => {
+            return calls_path::on_path(
+                bytes,
+                phys,
+                geometry,
+                plan,
+                place,
+                nums,
+                names,
+                dirs,
+                pool,
+                call,
+                first,
+                second,
+                buf,
+            );
+        }
     }
 }
 
-// The reply of a call that tells nothing but its answer.
-pub fn quiet(answer: Answer, place: Place, pool: Pool) -> Reply
-    ensures { λ r. ⌜ r ≡ quietly answer place pool ⌝ }
-{
-    Reply {
-        answer: answer,
-        slot: 0,
-        generation: 0,
-        len: 0,
-        count: 0,
-        yes: false,
-        place: place,
-        pool: pool,
-    }
-}
-
-// mount, adopt, open_write.
-pub fn opening(
+// Makes the call.
+pub fn make(
     bytes: &mut [u8],
     phys: &mut [u64],
     geometry: Geometry,
@@ -189,48 +220,33 @@ pub fn opening(
     names: &mut [u8],
     dirs: &mut [u8],
     pool: Pool,
-    call: Coded,
+    call: Call,
     first: &[u8],
+    second: &[u8],
+    buf: &mut [u8],
 ) -> Reply
-    ensures { λ r. ⌜ replied r (now (bytes .exit)) (now (phys .exit)) (now (nums .exit)) (now (names .exit)) (now (dirs .exit)) ≡ openingM (now (plan .entry)) geometry call (now (first .entry)) (lent (dev (now (bytes .entry)) (now (phys .entry)) place) (bufs pool (now (nums .entry)) (now (names .entry)) (now (dirs .entry)))) ⌝ }
+    ensures { λ r.
+        ⌜ replies r bytes phys nums names dirs buf
+        ≡ callP (now (plan .entry)) geometry call (now (first .entry)) (now (second .entry)) (now (buf .entry))
+        (before bytes phys place nums names dirs pool) ⌝ }
 {
-    let code = call.code;
-    if code == 1 {
-        let r = intake::mount(
-            bytes,
-            phys,
-            geometry,
-            plan,
-            place,
-            nums,
-            names,
-            dirs,
-            call.slots,
-        );
-        let answer = r.answer;
-        let after = r.place;
-        let left = r.pool;
-        return quiet(answer, after, left);
+    let no = calls_gate::refusal(
+        bytes,
+        phys,
+        geometry,
+        place,
+        nums,
+        names,
+        dirs,
+        pool,
+        call,
+        first,
+        second,
+    );
+    if no != 0 {
+        return calls_gate::refuse(no, place, nums, names, dirs, pool, call);
     }
-    if code == 2 {
-        let r = intake::adopt(
-            bytes,
-            phys,
-            geometry,
-            plan,
-            place,
-            nums,
-            names,
-            dirs,
-            pool,
-            call.slots,
-        );
-        let answer = r.answer;
-        let after = r.place;
-        let left = r.pool;
-        return quiet(answer, after, left);
-    }
-    let r = named::open_write(
+    let done = inner(
         bytes,
         phys,
         geometry,
@@ -240,224 +256,19 @@ pub fn opening(
         names,
         dirs,
         pool,
+        call,
         first,
-        call.keep,
+        second,
+        buf,
     );
-    let answer = r.answer;
-    let after = r.place;
-    let left = r.pool;
+    let answer = calls_gate::answer_of(done.out);
+    let told = done.told;
+    let after = done.place;
+    let left = done.pool;
     Reply {
         answer: answer,
-        slot: r.slot,
-        generation: r.generation,
-        len: r.len,
-        count: 0,
-        yes: false,
+        told: told,
         place: after,
         pool: left,
     }
-}
-
-// open_read, read_at.
-pub fn reading(
-    bytes: &[u8],
-    phys: &[u64],
-    geometry: Geometry,
-    plan: &[u8],
-    place: Place,
-    nums: &[u64],
-    names: &[u8],
-    dirs: &[u8],
-    pool: Pool,
-    call: Coded,
-    first: &[u8],
-    buf: &mut [u8],
-) -> Reply
-    ensures { λ r. ⌜ called (replied r (now (bytes .entry)) (now (phys .entry)) (now (nums .entry)) (now (names .entry)) (now (dirs .entry))) (now (buf .exit)) ≡ readingM (now (plan .entry)) geometry call (now (first .entry)) (now (buf .entry)) (lent (dev (now (bytes .entry)) (now (phys .entry)) place) (bufs pool (now (nums .entry)) (now (names .entry)) (now (dirs .entry)))) ⌝ }
-{
-    let code = call.code;
-    if code == 4 {
-        let r = named::open_read(nums, names, dirs, pool, first);
-        let answer = r.answer;
-        return Reply {
-            answer: answer,
-            slot: r.slot,
-            generation: r.generation,
-            len: 0,
-            count: 0,
-            yes: false,
-            place: place,
-            pool: pool,
-        };
-    }
-    let r = file::read_at(
-        bytes,
-        phys,
-        geometry,
-        plan,
-        place,
-        nums,
-        names,
-        dirs,
-        pool,
-        call.slot,
-        call.generation,
-        call.at,
-        buf,
-    );
-    let answer = r.answer;
-    let after = r.place;
-    Reply {
-        answer: answer,
-        slot: 0,
-        generation: 0,
-        len: 0,
-        count: r.count,
-        yes: false,
-        place: after,
-        pool: pool,
-    }
-}
-
-// write_at, set_len, file_len, sync.
-pub fn handling(
-    bytes: &mut [u8],
-    phys: &mut [u64],
-    geometry: Geometry,
-    plan: &[u8],
-    place: Place,
-    nums: &mut [u64],
-    names: &[u8],
-    dirs: &[u8],
-    pool: Pool,
-    call: Coded,
-    first: &[u8],
-) -> Reply
-    ensures { λ r. ⌜ replied r (now (bytes .exit)) (now (phys .exit)) (now (nums .exit)) (now (names .entry)) (now (dirs .entry)) ≡ handlingM (now (plan .entry)) geometry call (now (first .entry)) (lent (dev (now (bytes .entry)) (now (phys .entry)) place) (bufs pool (now (nums .entry)) (now (names .entry)) (now (dirs .entry)))) ⌝ }
-{
-    let code = call.code;
-    if code == 6 {
-        let r = file::write_at(
-            bytes,
-            phys,
-            geometry,
-            plan,
-            place,
-            nums,
-            names,
-            dirs,
-            pool,
-            call.slot,
-            call.generation,
-            call.at,
-            first,
-        );
-        let answer = r.answer;
-        let after = r.place;
-        return quiet(answer, after, pool);
-    }
-    if code == 7 {
-        let r = file::set_len(
-            bytes,
-            phys,
-            geometry,
-            plan,
-            place,
-            nums,
-            names,
-            dirs,
-            pool,
-            call.slot,
-            call.generation,
-            call.at,
-        );
-        let answer = r.answer;
-        let after = r.place;
-        return quiet(answer, after, pool);
-    }
-    if code == 8 {
-        let r = file::file_len(nums, names, dirs, pool, call.slot, call.generation);
-        let answer = r.answer;
-        return Reply {
-            answer: answer,
-            slot: 0,
-            generation: 0,
-            len: r.len,
-            count: 0,
-            yes: false,
-            place: place,
-            pool: pool,
-        };
-    }
-    let r = file::sync(
-        bytes,
-        phys,
-        geometry,
-        plan,
-        place,
-        nums,
-        names,
-        dirs,
-        pool,
-        call.slot,
-        call.generation,
-    );
-    let answer = r.answer;
-    let after = r.place;
-    quiet(answer, after, pool)
-}
-
-// rename, remove_file.
-pub fn moving(
-    bytes: &mut [u8],
-    phys: &mut [u64],
-    geometry: Geometry,
-    plan: &[u8],
-    place: Place,
-    nums: &mut [u64],
-    names: &mut [u8],
-    dirs: &mut [u8],
-    pool: Pool,
-    call: Coded,
-    first: &[u8],
-    second: &[u8],
-) -> Reply
-    ensures { λ r. ⌜ replied r (now (bytes .exit)) (now (phys .exit)) (now (nums .exit)) (now (names .exit)) (now (dirs .exit)) ≡ movingM (now (plan .entry)) geometry call (now (first .entry)) (now (second .entry)) (lent (dev (now (bytes .entry)) (now (phys .entry)) place) (bufs pool (now (nums .entry)) (now (names .entry)) (now (dirs .entry)))) ⌝ }
-{
-    let code = call.code;
-    if code == 11 {
-        let r = named::rename(
-            bytes,
-            phys,
-            geometry,
-            plan,
-            place,
-            nums,
-            names,
-            dirs,
-            pool,
-            first,
-            second,
-        );
-        let answer = r.answer;
-        let after = r.place;
-        let left = r.pool;
-        return quiet(answer, after, left);
-    }
-    let r = named::remove_file(
-        bytes,
-        phys,
-        geometry,
-        plan,
-        place,
-        nums,
-        names,
-        dirs,
-        pool,
-        first,
-    );
-    let answer = r.answer;
-    let after = r.place;
-    let left = r.pool;
-    quiet(answer, after, left)
 }

@@ -36,8 +36,8 @@ abbrev pub dumpWord : List ℕ
 dumpWord = 100 ∷ 117 ∷ 109 ∷ 112 ∷ []
 
 -- The request, if the word is not empty.
-abbrev pub filled : List ℕ → Request → Request
-filled w r = cond (eqb (length w) 0) what r
+abbrev pub ifFilled : List ℕ → Request → Request
+ifFilled w r = cond (eqb (length w) 0) what r
 
 -- The forms of one word, of two and of three.
 unfoldable pub oneWord : List ℕ → Request
@@ -45,46 +45,46 @@ oneWord v = cond (sameBytes v dumpWord) dump what
 
 unfoldable pub twoWords : List ℕ → List ℕ → Request
 twoWords v p =
-    filled p
+    ifFilled p
     (cond (sameBytes v createWord) (create p)
     (cond (sameBytes v syncWord) (sync p)
     (cond (sameBytes v rmWord) (remove p) what)))
 
 unfoldable pub threeWords : List ℕ → List ℕ → List ℕ → Request
-threeWords v a b = filled a (filled b (cond (sameBytes v mvWord) (move a b) what))
+threeWords v a b = ifFilled a (ifFilled b (cond (sameBytes v mvWord) (move a b) what))
 
-unfoldable pub formOf : List (List ℕ) → Request
-formOf [] = what
-formOf (v ∷ []) = oneWord v
-formOf (v ∷ p ∷ []) = twoWords v p
-formOf (v ∷ a ∷ b ∷ []) = threeWords v a b
-formOf (v ∷ a ∷ b ∷ c ∷ ws) = what
+unfoldable pub requestBy : List (List ℕ) → Request
+requestBy [] = what
+requestBy (v ∷ []) = oneWord v
+requestBy (v ∷ p ∷ []) = twoWords v p
+requestBy (v ∷ a ∷ b ∷ []) = threeWords v a b
+requestBy (v ∷ a ∷ b ∷ c ∷ ws) = what
 
 -- "`what` for a line above 1,024 bytes or not of these forms with non-empty words"
 unfoldable pub requestOf : List ℕ → Request
-requestOf line = cond (ltb 1024 (length line)) what (formOf (wordsOf line))
+requestOf line = cond (ltb 1024 (length line)) what (requestBy (wordsOf line))
 
 -- ---- a command, with the places of its paths in the line
 
 -- What a command asks of its line.
-unfoldable pub asks : List ℕ → Command → Request
-asks line (Create i) = create (drop i line)
-asks line (Sync i) = sync (drop i line)
-asks line (Remove i) = remove (drop i line)
-asks line (Move i j) = move (take (j - i) (drop i line)) (drop (j + 1) line)
-asks line Dump = dump
-asks line What = what
+unfoldable pub readAs : List ℕ → Command → Request
+readAs line (Create i) = create (drop i line)
+readAs line (Sync i) = sync (drop i line)
+readAs line (Remove i) = remove (drop i line)
+readAs line (Move i j) = move (take (j - i) (drop i line)) (drop (j + 1) line)
+readAs line Dump = dump
+readAs line What = what
 
 -- The places lie in a line of n bytes.
-unfoldable pub Inside : ℕ → Command → Type 0
-Inside n (Create i) = i ≤ n
-Inside n (Sync i) = i ≤ n
-Inside n (Remove i) = i ≤ n
-Inside n (Move i j) = (i ≤ j) × (j < n)
-Inside n Dump = Unit {0}
-Inside n What = Unit {0}
+unfoldable pub InLine : ℕ → Command → Type 0
+InLine n (Create i) = i ≤ n
+InLine n (Sync i) = i ≤ n
+InLine n (Remove i) = i ≤ n
+InLine n (Move i j) = (i ≤ j) × (j < n)
+InLine n Dump = Unit {0}
+InLine n What = Unit {0}
 
 -- A command stands for a request of its line.
 pub record Means (line : List ℕ) (c : Command) (q : Request) : Type 0 where
-  pub same : asks line c ≡ q
-  pub inside : Inside (length line) c
+  pub same : readAs line c ≡ q
+  pub inside : InLine (length line) c

@@ -69,7 +69,12 @@ fn two_words(line: &[u8], a: usize) -> Command
 // The command of a line of three words, the first of which ends at a and the second at b.
 fn three_words(line: &[u8], a: usize, b: usize) -> Command
     requires { ⌜ (a < b) × (b < length (now line)) ⌝ }
-    ensures { λ r. ⌜ Means (now (line .entry)) r (threeWords (take a (now (line .entry))) (take (b - (a + 1)) (drop (a + 1) (now (line .entry)))) (drop (b + 1) (now (line .entry)))) ⌝ }
+    ensures { λ r. ⌜
+        Means (now (line .entry)) r
+        (threeWords
+        (take a (now (line .entry)))
+        (take (b - (a + 1)) (drop (a + 1) (now (line .entry))))
+        (drop (b + 1) (now (line .entry)))) ⌝ }
 {
     let i = a + 1;
     if i == b {

@@ -1,9 +1,9 @@
-// Four slots and what their header blocks say: two claim one name in two spellings, the third was cut in the middle of a write, the fourth is
-// free. They are laid on a device and mounted: the higher generation holds the name, and the slot that lost is free again. Each line is
+// Four slots and what their header blocks say: two claim one name in two spellings, the third was cut in the middle of a write, the fourth
+// is free. They are laid on a device and mounted: the higher generation holds the name, and the slot that lost is free again. Each line is
 // printed from what was decoded, or from what the pool answered. No contract can speak of what is written, so all that is worked
 // out stands in functions with contracts of their own.
-use calls::Call;
-use calls::Reply;
+use calls_gate::Call;
+use calls_gate::Reply;
 use device::Geometry;
 use device::Place;
 use header::Decoded;
@@ -99,7 +99,7 @@ fn mount(bytes: &mut [u8]) {
     let answer = mounted.answer;
     let pool = mounted.pool;
     say(b"mount: ");
-    number(gate::number(answer) as u64);
+    number(calls_gate::number(answer) as u64);
     say(b"\n");
     tell_holder(bytes, &mut phys, &mut nums, &mut names, &mut dirs, pool);
     tell_queue(pool);
@@ -124,8 +124,9 @@ fn tell_holder(
         Call::OpenRead,
         b"deck/07/tile",
     );
-    let slot = reader.slot;
-    let generation = reader.generation;
+    let handle = reader.told;
+    let slot = handle.slot;
+    let generation = handle.generation;
     let file = ask(
         bytes,
         phys,
@@ -139,12 +140,13 @@ fn tell_holder(
         },
         b"",
     );
+    let told = file.told;
     say(b"deck/07/tile: slot ");
     number(slot as u64);
     say(b", generation ");
     number(generation);
     say(b", length ");
-    number(file.len);
+    number(told.len);
     say(b"\n");
 }
 

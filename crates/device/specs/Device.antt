@@ -5,6 +5,8 @@ use mathlib.Core.List.{List, []}
 use mathlib.Core.Bool.{Bool, true, false, cond, _&&_, _||_}
 use lib.ListN.{length, getD, take, drop, set, replicate}
 use lib.Dec.{ltb, leb, eqb}
+use denote.Ref.{now}
+use Rattle.lists.specs.Lends.{Run}
 use Rattle.lists.specs.Runs.{allOf}
 use Rattle.le.specs.Le.{laid}
 use Rattle.device.specs.declared.Place.{Place}
@@ -19,6 +21,13 @@ pub record Dev : Type 0 where
 
 abbrev pub dev : List ℕ → List ℕ → Place → Dev
 dev b h p = record { bytes = b; phys = h; place = p }
+
+-- the device that a function was lent, and as it is left
+abbrev pub devBefore : Run → Run → Place → Dev
+devBefore bytes phys p = dev (now (bytes .entry)) (now (phys .entry)) p
+
+abbrev pub devAfter : Run → Run → Place → Dev
+devAfter bytes phys p = dev (now (bytes .exit)) (now (phys .exit)) p
 
 -- "A lent byte slice cut into equal slots of a given size, 512 to 1,048,576 bytes each, a multiple of 512; a lent list of physical lengths, one a slot, at most the slot size"
 pub record Shape (g : Geometry) (bytes phys : List ℕ) : Type 0 where

@@ -9,15 +9,17 @@ use mathlib.Core.Bool.{Bool, true, false, cond, _||_, false≢true}
 use mathlib.Core.List.{List, [], _++_, append-nil}
 use lib.ListN.{length, take, drop, replicate, length-take, length-drop, length-set, length-replicate, drop-of-length-le, List·getD-eq-default}
 use lib.Seq.{getD-set-same, getD-set-other, length-take-le, take-all, take-take, drop-drop}
-use lib.Dec.{ltb, leb, eqb}
-use borrow.Author.Tests.{ltb-true, ltb-false, eqb-true, lt-ltb, le-ltb, eq-eqb, not-true, leb-true, leb-false}
+use lib.Dec.{ltb, eqb}
+use borrow.Author.Tests.{ltb-true, ltb-false, eqb-true, lt-ltb, le-ltb, eq-eqb, not-true}
+use Rattle.lists.specs.Bools.{both}
+use Rattle.lists.specs.Fronts.{drop-take, take-min}
 use Rattle.lists.specs.Blocks.{pad}
 use Rattle.le.specs.Le.{laid}
 use Rattle.le.specs.Parts.{length-laid, take-laid, laid-nothing}
 use Rattle.device.specs.declared.Geometry.{Geometry}
 use Rattle.device.specs.Device.{Dev, Shape, turn, after, came, share, stops, short, stores, physOf, given, seen, grown, storedBytes, storedPhys, stored, writeM, cut, truncateM, flushed, flushM, headerWriteM, dataWriteM, dataTruncateM}
-use Rattle.device.specs.Shape.{both, shape-means, shape-set, shape-stored}
-use Rattle.device.specs.Slots.{partOf, part-laid, part-other, front-grown, front-laid, drop-take, share-le}
+use Rattle.device.specs.Shape.{shape-means, shape-set, shape-stored}
+use Rattle.device.specs.Slots.{partOf, part-laid, part-other, front-grown, front-laid, share-le}
 use Rattle.device.specs.Laws.{Call, look, header, flush, truncate, store, load, slotOf, sound, reads, quiet, onFile, Inside, Whole, moved}
 use Rattle.device.specs.Calls.{may, callM, givenM, lastOf, readAll, okM, blockOf, actM, givenBy, failedM, wholeM}
 
@@ -114,16 +116,6 @@ calm-share byte n e = go (eqb byte 1) (eqb byte 2) e
     go t false q = refl
     go true true q = absurd (false≢true (sym q))
     go false true q = absurd (false≢true (sym q))
-
-take-min : (n : ℕ) (l : List ℕ) → take (min n (length l)) l ≡ take n l
-take-min n l = go (leb n (length l)) refl
-  where
-    go : (t : Bool) → leb n (length l) ≡ t → take (min n (length l)) l ≡ take n l
-    go true e = let k : min n (length l) ≡ n = omega (arith, leb-true n (length l) e) in rw k
-    go false e =
-        let h : length l < n = leb-false n (length l) e in
-        let k : min n (length l) ≡ length l = omega arith in
-        rw k (take-all (length l) l (omega arith) ∙ sym (take-all n l (omega arith)))
 
 module _ (plan : List ℕ) (g : Geometry) where
   -- how many bytes of src a write stores

@@ -1,7 +1,7 @@
 -- What the shape test means, and what keeps the shape.
-use mathlib.Core.Path.{_≡_, refl, _∙_}
+use mathlib.Core.Path.{_≡_, _∙_}
 use mathlib.Core.Logic.{_↔_}
-use mathlib.Core.Bool.{Bool, true, false, _&&_, false≢true}
+use mathlib.Core.Bool.{true}
 use mathlib.Core.List.{List}
 use Prim.Native.Nat.{ℕ, _+_, _*_, _%_, _≤_, _<_, max}
 use native.Mathlib.Nat.{mul-le-mul-left}
@@ -11,13 +11,10 @@ use lib.ListN.{length, getD, set, length-set}
 use lib.Seq.{getD-set-same, getD-set-other}
 use lib.Dec.{leb, eqb}
 use borrow.Author.Tests.{leb-true, le-leb, eqb-true, eq-eqb}
-use Rattle.lists.specs.Runs.{allOf, all-at, all-intro}
+pub use Rattle.lists.specs.Bools.{both}
+use Rattle.lists.specs.Runs.{all-at, all-intro}
 use Rattle.device.specs.declared.Geometry.{Geometry}
 use Rattle.device.specs.Device.{Shape, Slotted, shapeB, storedPhys}
-
-pub both : (a b : Bool) → (a && b) ≡ true → (a ≡ true) × (b ≡ true)
-both true b e = (refl, e)
-both false b e = absurd (false≢true e)
 
 -- The test says true just of the devices of the right shape.
 pub shape-means : (g : Geometry) (bytes phys : List ℕ) → shapeB g bytes phys ≡ true ↔ Shape g bytes phys

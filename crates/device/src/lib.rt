@@ -1,14 +1,17 @@
 // The device: a lent byte slice cut into equal slots, a lent list of physical lengths, one a slot, and a lent plan, one byte a device call.
-// It ports the slot calls of sah.rs over memory: a slot's first 512 bytes are its header block, and file offset `at` is device place 512 + at.
-// A call fails by plan byte 1, and a flush or a truncate by plan byte 2 too; a write that starts, and a truncate that ends, beyond the slot fails.
-// A call that failed comes to 10, a write that stored less than it was asked to 11; `Place` keeps that number beside the place in the plan.
+// It ports the slot calls of sah.rs over memory: a slot's first 512 bytes are its header block, and file offset `at` is device place
+// 512 + at. A call fails by plan byte 1, and a flush or a truncate by plan byte 2 too; a write that starts, and a truncate that ends,
+// beyond the slot fails. A call that failed comes to 10, a write that stored less than it was asked to 11; `Place` keeps that number
+// beside the place in the plan.
 ghost use mathlib.Core.Path.{_≡_};
 ghost use Prim.Native.Nat.{_+_, _-_, _*_, _≤_, _<_, min, max};
 ghost use lib.ListN.{length, getD, set, replicate};
 ghost use lib.Dec.{leb};
 ghost use Rattle.lists.specs.Runs.{allOf};
 ghost use Rattle.le.specs.Le.{laid};
-ghost use Rattle.device.specs.Device.{turn, after, flushed, share, short, shapeB, Shape, Slotted, dev, grown, storedBytes, storedPhys, read, headerReadM, readM, headerWriteM, writeM, dataReadM, dataWriteM, dataTruncateM};
+ghost use Rattle.device.specs.Device.{Shape, shapeB, Slotted, devBefore, devAfter, turn, after, share, short, grown};
+ghost use Rattle.device.specs.Device.{storedBytes, storedPhys, read, readM, writeM, flushed};
+ghost use Rattle.device.specs.Device.{headerReadM, headerWriteM, dataReadM, dataWriteM, dataTruncateM};
 
 // The bytes of a slot before its file's first.
 const HEADER: usize = 512;
@@ -67,7 +70,9 @@ pub fn header_read(
 ) -> Got
     requires { ⌜ Shape geometry (now bytes) (now phys) ⌝ }
     requires { ⌜ slot < length (now phys) ⌝ }
-    ensures { λ r. ⌜ read (now (into .exit)) r ≡ headerReadM (now (plan .entry)) geometry slot (now (into .entry)) (dev (now (bytes .entry)) (now (phys .entry)) place) ⌝ }
+    ensures { λ r. ⌜
+        read (now (into .exit)) r
+        ≡ headerReadM (now (plan .entry)) geometry slot (now (into .entry)) (devBefore bytes phys place) ⌝ }
 {
     read_at(bytes, phys, geometry, plan, place, slot, 0, into)
 }
@@ -84,7 +89,9 @@ pub fn header_write(
 ) -> Place
     requires { ⌜ Shape geometry (now bytes) (now phys) ⌝ }
     requires { ⌜ slot < length (now phys) ⌝ }
-    ensures same { λ r. ⌜ dev (now (bytes .exit)) (now (phys .exit)) r ≡ headerWriteM (now (plan .entry)) geometry slot block (dev (now (bytes .entry)) (now (phys .entry)) place) ⌝ }
+    ensures same { λ r. ⌜
+        devAfter bytes phys r
+        ≡ headerWriteM (now (plan .entry)) geometry slot block (devBefore bytes phys place) ⌝ }
     ensures kept { λ _. ⌜ Shape geometry (now (bytes .exit)) (now (phys .exit)) ⌝ }
 {
     write_at(bytes, phys, geometry, plan, place, slot, 0, &block)
@@ -103,7 +110,9 @@ pub fn data_read(
 ) -> Got
     requires { ⌜ Shape geometry (now bytes) (now phys) ⌝ }
     requires { ⌜ slot < length (now phys) ⌝ }
-    ensures { λ r. ⌜ read (now (dst .exit)) r ≡ dataReadM (now (plan .entry)) geometry slot at (now (dst .entry)) (dev (now (bytes .entry)) (now (phys .entry)) place) ⌝ }
+    ensures { λ r. ⌜
+        read (now (dst .exit)) r
+        ≡ dataReadM (now (plan .entry)) geometry slot at (now (dst .entry)) (devBefore bytes phys place) ⌝ }
 {
     let pos = file_pos(geometry, at);
     read_at(bytes, phys, geometry, plan, place, slot, pos, dst)
@@ -122,7 +131,9 @@ pub fn data_write(
 ) -> Place
     requires { ⌜ Shape geometry (now bytes) (now phys) ⌝ }
     requires { ⌜ slot < length (now phys) ⌝ }
-    ensures same { λ r. ⌜ dev (now (bytes .exit)) (now (phys .exit)) r ≡ dataWriteM (now (plan .entry)) geometry slot at (now (src .entry)) (dev (now (bytes .entry)) (now (phys .entry)) place) ⌝ }
+    ensures same { λ r. ⌜
+        devAfter bytes phys r
+        ≡ dataWriteM (now (plan .entry)) geometry slot at (now (src .entry)) (devBefore bytes phys place) ⌝ }
     ensures kept { λ _. ⌜ Shape geometry (now (bytes .exit)) (now (phys .exit)) ⌝ }
 {
     let pos = file_pos(geometry, at);
@@ -141,7 +152,9 @@ pub fn data_truncate(
 ) -> Place
     requires { ⌜ Shape geometry (now bytes) (now phys) ⌝ }
     requires { ⌜ slot < length (now phys) ⌝ }
-    ensures same { λ r. ⌜ dev (now (bytes .exit)) (now (phys .exit)) r ≡ dataTruncateM (now (plan .entry)) geometry slot len (dev (now (bytes .entry)) (now (phys .entry)) place) ⌝ }
+    ensures same { λ r. ⌜
+        devAfter bytes phys r
+        ≡ dataTruncateM (now (plan .entry)) geometry slot len (devBefore bytes phys place) ⌝ }
     ensures kept { λ _. ⌜ Shape geometry (now (bytes .exit)) (now (phys .exit)) ⌝ }
 {
     let done = flush(plan, place);
@@ -251,7 +264,9 @@ fn read_at(
 ) -> Got
     requires { ⌜ Shape geometry (now bytes) (now phys) ⌝ }
     requires { ⌜ slot < length (now phys) ⌝ }
-    ensures { λ r. ⌜ read (now (dst .exit)) r ≡ readM (now (plan .entry)) geometry slot pos (now (dst .entry)) (dev (now (bytes .entry)) (now (phys .entry)) place) ⌝ }
+    ensures { λ r. ⌜
+        read (now (dst .exit)) r
+        ≡ readM (now (plan .entry)) geometry slot pos (now (dst .entry)) (devBefore bytes phys place) ⌝ }
 {
     let byte = turn_of(plan, place);
     if byte == 1 {
@@ -291,7 +306,9 @@ fn write_at(
 ) -> Place
     requires { ⌜ Shape geometry (now bytes) (now phys) ⌝ }
     requires { ⌜ slot < length (now phys) ⌝ }
-    ensures same { λ r. ⌜ dev (now (bytes .exit)) (now (phys .exit)) r ≡ writeM (now (plan .entry)) geometry slot pos (now (src .entry)) (dev (now (bytes .entry)) (now (phys .entry)) place) ⌝ }
+    ensures same { λ r. ⌜
+        devAfter bytes phys r
+        ≡ writeM (now (plan .entry)) geometry slot pos (now (src .entry)) (devBefore bytes phys place) ⌝ }
     ensures kept { λ _. ⌜ Shape geometry (now (bytes .exit)) (now (phys .exit)) ⌝ }
 {
     let byte = turn_of(plan, place);
@@ -319,7 +336,10 @@ fn short_of(n: usize, asked: usize) -> u8
 fn store(bytes: &mut [u8], phys: &mut [u64], size: usize, slot: usize, pos: usize, src: &[u8])
     requires { ⌜ Slotted size slot (now bytes) (now phys) ⌝ }
     requires { ⌜ pos + length (now src) ≤ size ⌝ }
-    ensures { λ _. ⌜ (now (bytes .exit) ≡ storedBytes (slot * size) (getD (now (phys .entry)) slot 0) pos (now (src .entry)) (now (bytes .entry))) × (now (phys .exit) ≡ storedPhys slot pos (length (now (src .entry))) (now (phys .entry))) ⌝ }
+    ensures stored { λ _. ⌜
+        now (bytes .exit)
+        ≡ storedBytes (slot * size) (getD (now (phys .entry)) slot 0) pos (now (src .entry)) (now (bytes .entry)) ⌝ }
+    ensures reached { λ _. ⌜ now (phys .exit) ≡ storedPhys slot pos (length (now (src .entry))) (now (phys .entry)) ⌝ }
 {
     let base = slot * size;
     let from = phys[slot] as usize;

@@ -5,10 +5,11 @@ use mathlib.Core.List.{List, [], _∷_, _++_}
 use lib.ListN.{length, take, drop, replicate}
 use native.Mathlib.Omega.{arith}
 use Rattle.le.specs.Le.{le, laid}
-use Rattle.le.specs.Parts.{mid-back, laid-front}
+use Rattle.le.specs.Parts.{mid-back, laid-front, laid-before}
+use Rattle.lists.specs.Fronts.{drop-zeros}
 use Rattle.lists.specs.Blocks.{pad, pad-fits, length-pad}
 use Rattle.dirs.specs.Rows.{dirRow, dirsOf, FlatDirs}
-use Rattle.dirs.specs.RowLaws.{drop-zeros, laid-before, row-fits, row-free, dir-pushed}
+use Rattle.dirs.specs.RowLaws.{row-fits, row-free, dir-pushed}
 
 zeros-laid : (x : List ℕ) → length x ≤ 480 → laid (replicate 480 0) 0 x ≡ pad 480 x
 zeros-laid x h = laid-front (replicate 480 0) x ∙ rw (drop-zeros (length x) 480, pad-fits 480 x h)

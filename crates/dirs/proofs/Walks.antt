@@ -8,7 +8,7 @@ use lib.Seq.{take-append-le}
 use native.Mathlib.Omega.{arith}
 use borrow.Author.Tests.{eq-eqb}
 use Rattle.lists.specs.Distinct.{In}
-use Rattle.lists.specs.Runs.{tab, tab-more, tab-end}
+use Rattle.lists.specs.Runs.{tab, take-tab, tab-more, tab-end}
 use Rattle.path.specs.Path.{samePath, normal, ancestors}
 use Rattle.path.specs.Walk.{upFrom, Above}
 use Rattle.path.specs.Ancestors.{ancestor-short, up-falls, up-step}
@@ -52,12 +52,6 @@ unfolding absent upFrom
 absent-none ds p e h = rw (eq-eqb e 0 h)
 
 -- ---- one row more leaves those before it
-
-take-tab : (f : ℕ → List ℕ) (i m n : ℕ) → m ≤ n → take m (tab f i n) ≡ tab f i m
-unfolding tab
-take-tab f i zero n h = refl
-take-tab f i (suc m) zero h = absurd (omega arith)
-take-tab f i (suc m) (suc n) h = ap (λ (l : List (List ℕ)). f i ∷ l) (take-tab f (suc i) m n (omega arith))
 
 dirs-before : (b : List ℕ) (m n : ℕ) → m ≤ n → take m (dirsOf b n) ≡ dirsOf b m
 unfolding dirsOf

@@ -6,7 +6,8 @@ use mathlib.Core.List.{List, [], _∷_, _++_, List·Memᴰ·head, List·Memᴰ·
 use mathlib.Core.Bool.{Bool, true, false, cond, false≢true, _||_}
 use lib.ListN.{length, length-append}
 use native.Mathlib.Omega.{arith}
-use Rattle.lists.specs.Distinct.{In, Distinct}
+use Rattle.lists.specs.Bools.{not-both}
+use Rattle.lists.specs.Distinct.{In, Distinct, distinct-append}
 use Rattle.lists.specs.Distinct.Distinct.{none, more}
 use Rattle.path.specs.Path.{components, samePath, normal, ancestors}
 use Rattle.path.specs.Theorems.{same-path, components-normal, same-normal}
@@ -33,16 +34,6 @@ has-append (d ∷ ds) es q = go (samePath d q) (has-append ds es q)
     go : (b : Bool) → hasPath (ds ++ es) q ≡ (hasPath ds q || hasPath es q) → cond b true (hasPath (ds ++ es) q) ≡ (cond b true (hasPath ds q) || hasPath es q)
     go true h = refl
     go false h = h
-
-pub or-left : (a b : Bool) → a ≡ true → (a || b) ≡ true
-or-left a b h = rw h
-
-pub or-right : (a b : Bool) → b ≡ true → (a || b) ≡ true
-or-right true b h = refl
-or-right false b h = h
-
-not-both : (b : Bool) → b ≡ true → b ≡ false → ⊥
-not-both b h k = false≢true (sym k ∙ h)
 
 -- it is if one of them has its components,
 pub in-has : (ds : List (List ℕ)) (d q : List ℕ) → In d ds → components d ≡ components q → hasPath ds q ≡ true
@@ -163,11 +154,6 @@ length-joined ds xs = length-append ds (absent ds xs)
 pub joined-short : (ds xs : List (List ℕ)) → Short ds → Short xs → Short (joined ds xs)
 unfolding joined
 joined-short ds xs s t d m = ⊎-elim (s d) (λ k. t d (absent-in ds xs d k .0)) (List·Memᴰ·append-cases ds m)
-
-distinct-append : {ds : List (List ℕ)} (es : List (List ℕ)) → Distinct ds → Distinct es → ((e : List ℕ) → In e es → In e ds → ⊥) → Distinct (ds ++ es)
-distinct-append es none k n = k
-distinct-append es (more {x = x} {xs = ds} f t) k n =
-    more (λ m. ⊎-elim f (λ r. n x r (List·Memᴰ·head refl)) (List·Memᴰ·append-cases ds m)) (distinct-append es t k (λ e m r. n e m (List·Memᴰ·tail r)))
 
 distinct-absent : (ds : List (List ℕ)) {xs : List (List ℕ)} → Distinct xs → Distinct (absent ds xs)
 unfolding absent

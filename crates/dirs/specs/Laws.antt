@@ -5,8 +5,9 @@ use mathlib.Core.Path.{_≡_, refl, sym, ap, _∙_, subst}
 use mathlib.Core.Logic.{⊎-elim}
 use mathlib.Core.List.{List, [], _∷_, _++_, map, append-assoc, append-nil, List·Memᴰ·head, List·Memᴰ·tail, List·Memᴰ·not-nil, List·Memᴰ·cases-cons, Memᴰ·cast}
 use mathlib.Core.Bool.{Bool, true, false, not, cond, false≢true, _||_}
-use lib.ListN.{length, length-append}
+use lib.ListN.{length, length-append, length-map}
 use native.Mathlib.Omega.{arith}
+use Rattle.lists.specs.Bools.{or-left, or-right}
 use Rattle.lists.specs.Distinct.{In, Distinct}
 use Rattle.lists.specs.Distinct.Distinct.{none, more}
 use Rattle.path.specs.Path.{components, normal, join, init, isRoot, idle, parentOf, fronts, ancestors}
@@ -15,7 +16,8 @@ use Rattle.path.specs.Theorems.{components-normal, same-normal, normal-normal, 
 use Rattle.path.specs.Ancestors.{ancestors-parent, ancestors-none, parent-fewer, ancestors-same, ancestors-up, ancestor-normal, ancestor-short, ancestors-distinct, ancestor-of, front-shorter}
 use Rattle.dirs.specs.Dirs.{Normals, Dirs, hasPath, absent, joined, registered, registeredWith, joinedEach, joinedUntil}
 use Rattle.dirs.specs.Rows.{Short}
-use Rattle.dirs.specs.Joined.{has-normal, has-append, or-left, or-right, has-other, in-has, has-in, absent-held, absent-other, absent-few, has-joined, length-joined, joined-dirs}
+use Rattle.dirs.specs.Joined.{has-normal, has-append, has-other, in-has, has-in, has-joined, length-joined, joined-dirs}
+use Rattle.dirs.specs.Joined.{absent-held, absent-other, absent-few}
 
 -- ---- a path and its ancestors
 
@@ -55,17 +57,13 @@ ancestors-short p h d m = path-short p h d (List·Memᴰ·tail m)
 
 -- ---- how many
 
-length-map : {A B : Type 0} (f : A → B) (l : List A) → length (map f l) ≡ length l
-length-map f [] = refl
-length-map f (x ∷ l) = ap suc (length-map f l)
-
 length-fronts : (cs : List (List ℕ)) → length (fronts cs) ≡ length cs - 1
 unfolding fronts
 length-fronts [] = omega arith
 length-fronts (c ∷ []) = omega arith
 length-fronts (c ∷ d ∷ cs) =
     length-append (map (λ (x : List (List ℕ)). c ∷ x) (fronts (d ∷ cs))) ((c ∷ []) ∷ [])
-    ∙ omega (arith, length-map (λ (x : List (List ℕ)). c ∷ x) (fronts (d ∷ cs)), length-fronts (d ∷ cs))
+    ∙ omega (arith, length-map (fronts (d ∷ cs)) (λ (x : List (List ℕ)). c ∷ x), length-fronts (d ∷ cs))
 
 -- components are not empty
 named-long : (w : Bool) (cs : List (List ℕ)) → AllNamed cs → length cs ≤ length (join w cs)
@@ -84,7 +82,14 @@ formed-long ((b ∷ c) ∷ cs) n = simp length-append (omega (arith, named-long 
 pub missing-few : (ds : List (List ℕ)) (p : List ℕ) → length (absent ds (ancestors p)) ≤ length p - 1
 unfolding ancestors normal
 missing-few ds p =
-    omega (arith, absent-few ds (ancestors p), length-map (join false) (fronts (components p)), length-fronts (components p), formed-long (components p) (formed p), normal-short p)
+    omega (
+      arith,
+      absent-few ds (ancestors p),
+      length-map (fronts (components p)) (join false),
+      length-fronts (components p),
+      formed-long (components p) (formed p),
+      normal-short p,
+    )
 
 -- ---- registering
 

@@ -1,6 +1,6 @@
 -- Directory rows and their buffer: the view of a flat form, the part that a row's spelling stands in, and one row more.
 use Prim.Native.Nat.{ℕ, zero, suc, _+_, _-_, _*_, _<_, _≤_, min}
-use mathlib.Core.Path.{_≡_, refl, sym, ap, ap₂, subst, _∙_}
+use mathlib.Core.Path.{_≡_, refl, sym, ap, subst, _∙_}
 use mathlib.Core.List.{List, [], _∷_, _++_, append-assoc, append-nil, List·Memᴰ·head, List·Memᴰ·tail, List·Memᴰ·append-cases, List·Memᴰ·eq-of-singleton, List·Memᴰ·not-nil, List·Memᴰ·cases-cons}
 use mathlib.Core.Logic.{_⊎_, ⊎-elim}
 use native.Mathlib.Nat.{mul-le-mul-right, add-sub-cancel-left}
@@ -9,9 +9,9 @@ use lib.ListN.{length, getD, take, drop, replicate, length-append, length-take, 
 use lib.Seq.{take-all, take-at, take-take, drop-drop, drop-append-add}
 use Rattle.le.specs.Le.{unle, field, laid}
 use Rattle.le.specs.Fields.{unle-le}
-use Rattle.le.specs.Parts.{take-laid, drop-laid-at}
-use Rattle.lists.specs.Blocks.{pad, cat, length-pad, pad-fits, take-pad, length-cat, flat-part}
-use Rattle.lists.specs.Runs.{tab, length-tab}
+use Rattle.lists.specs.Fronts.{take-cut, take-inside, drop-zeros}
+use Rattle.lists.specs.Blocks.{pad, cat, length-pad, pad-fits, take-pad, cat-append, length-cat, flat-part, flat-free}
+use Rattle.lists.specs.Runs.{tab, length-tab, tab-all}
 use Rattle.dirs.specs.Rows.{dirRow, flatDirs, spelt, dirAt, dirsOf, Short, FlatDirs}
 
 -- ---- sizes
@@ -48,15 +48,6 @@ spelt-row : (d : List ℕ) → length d ≤ 480 → spelt (dirRow d) ≡ d
 unfolding spelt dirRow
 spelt-row d h = ap (λ (k : ℕ). take k (pad 480 d)) (unle-le 2 (length d) (omega arith)) ∙ take-pad 480 d h
 
--- the directories from row i on
-tab-flat : (ds : List (List ℕ)) (f : ℕ → List ℕ) (i : ℕ) → ((j : ℕ) → j < length ds → f (i + j) ≡ getD ds j []) → tab f i (length ds) ≡ ds
-unfolding tab
-tab-flat [] f i h = refl
-tab-flat (d ∷ ds) f i h =
-    let z : i + 0 ≡ i = omega arith in
-    ap₂ {C = List (List ℕ)} (λ x xs. x ∷ xs) (ap f (sym z) ∙ h 0 (omega arith))
-    (tab-flat ds f (suc i) (λ j l. let s : suc i + j ≡ i + suc j = omega arith in ap f s ∙ h (suc j) (omega arith)))
-
 short-at : (ds : List (List ℕ)) (j : ℕ) → Short ds → length (getD ds j []) ≤ 480
 short-at [] j s = omega arith
 short-at (d ∷ ds) zero s = s d (List·Memᴰ·head refl)
@@ -64,7 +55,7 @@ short-at (d ∷ ds) (suc j) s = short-at ds j (λ x m. s x (List·Memᴰ·tail m
 
 pub dirs-flat : (cap : ℕ) (ds : List (List ℕ)) → length ds ≤ cap → Short ds → dirsOf (flatDirs cap ds) (length ds) ≡ ds
 unfolding dirsOf flatDirs dirAt
-dirs-flat cap ds h s = tab-flat ds (λ (j : ℕ). spelt (take 482 (drop (j * 482) (pad (cap * 482) (cat dirRow ds))))) 0 row
+dirs-flat cap ds h s = tab-all (λ (j : ℕ). spelt (take 482 (drop (j * 482) (pad (cap * 482) (cat dirRow ds))))) ds [] 0 row
   where
     row : (j : ℕ) → j < length ds → spelt (take 482 (drop ((0 + j) * 482) (pad (cap * 482) (cat dirRow ds)))) ≡ getD ds j []
     row j l =
@@ -85,18 +76,6 @@ flat-none cap = let z : cap * 482 - 0 ≡ cap * 482 = omega arith in pad-fits (c
 
 -- ---- the part that a row's spelling stands in
 
-take-cut : (n : ℕ) (l : List ℕ) → take (length (take n l)) l ≡ take n l
-take-cut zero l = refl
-take-cut (suc n) [] = refl
-take-cut (suc n) (x ∷ l) = ap (λ (t : List ℕ). x ∷ t) (take-cut n l)
-
--- a part that lies in a front of l is that part of l
-take-inside : (i k n : ℕ) (l : List ℕ) → i + k ≤ n → take k (drop i (take n l)) ≡ take k (drop i l)
-take-inside zero k n l h = take-take k n l (omega arith)
-take-inside (suc i) k zero l h = absurd (omega arith)
-take-inside (suc i) k (suc n) [] h = refl
-take-inside (suc i) k (suc n) (x ∷ l) h = take-inside i k n l (omega arith)
-
 module _ (b : List ℕ) (j : ℕ) where
   pub dir-length : j * 482 + 482 ≤ length b → length (dirAt b j) ≡ min (field b (j * 482) 2) 480
   unfolding dirAt spelt
@@ -116,66 +95,34 @@ module _ (b : List ℕ) (j : ℕ) where
 
 -- ---- one row more
 
-pub drop-zeros : (k n : ℕ) → drop {A = ℕ} k (replicate n 0) ≡ replicate (n - k) 0
-drop-zeros zero n = let z : n - 0 ≡ n = omega arith in rw z
-drop-zeros (suc k) zero = let z : 0 - suc k ≡ 0 = omega arith in rw z
-drop-zeros (suc k) (suc n) = let z : suc n - suc k ≡ n - k = omega arith in rw z (drop-zeros k n)
-
-take-zeros : (k n : ℕ) → k ≤ n → take {A = ℕ} k (replicate n 0) ≡ replicate k 0
-take-zeros zero n h = refl
-take-zeros (suc k) zero h = absurd (omega arith)
-take-zeros (suc k) (suc n) h = ap {B = List ℕ} (λ l. 0 ∷ l) (take-zeros k n (omega arith))
-
 module _ {A : Type 0} (f : A → List ℕ) (w : ℕ) (wide : (r : A) → length (f r) ≡ w) where
   cat-snoc : (rs : List A) (r : A) → cat f (rs ++ (r ∷ [])) ≡ cat f rs ++ f r
   unfolding cat
-  cat-snoc [] r = append-nil (f r)
-  cat-snoc (x ∷ rs) r = rw (cat-snoc rs r, append-assoc)
+  cat-snoc rs r = cat-append f rs (r ∷ []) ∙ ap (λ (t : List ℕ). cat f rs ++ t) (append-nil (f r))
 
-  module _ (n : ℕ) (rs : List A) (h : length rs < n) where
-    room : length (cat f rs) + w ≤ n * w
-    room = omega (arith, length-cat f w wide rs, mul-le-mul-right {m = suc (length rs)} {n = n} w h)
-
-    filled : pad (n * w) (cat f rs) ≡ cat f rs ++ replicate (n * w - length (cat f rs)) 0
-    filled = pad-fits (n * w) (cat f rs) (omega (arith, room))
-
-    -- the first free block is zero
-    flat-free : (i k : ℕ) → i + k ≤ w → take k (drop (length rs * w + i) (pad (n * w) (cat f rs))) ≡ replicate k 0
-    flat-free i k l =
-        let z : length rs * w + i ≡ length (cat f rs) + i = omega (arith, length-cat f w wide rs) in
-        rw (filled, z, drop-append-add (cat f rs) (replicate (n * w - length (cat f rs)) 0) i, drop-zeros i (n * w - length (cat f rs)))
-        (take-zeros k (n * w - length (cat f rs) - i) (omega (arith, room)))
-
-    -- and a block laid over it is one block more
-    flat-push : (r : A) → laid (pad (n * w) (cat f rs)) (length rs * w) (f r) ≡ pad (n * w) (cat f (rs ++ (r ∷ [])))
-    unfolding laid
-    flat-push r =
-        let c : List ℕ = cat f rs in
-        let e : length c ≡ length rs * w = length-cat f w wide rs in
-        let z : length rs * w + length (f r) ≡ length c + w = omega (arith, wide r, e) in
-        let l : length (c ++ f r) ≡ length c + w = length-append c (f r) ∙ ap (λ (k : ℕ). length c + k) (wide r) in
-        let y : n * w - length c - w ≡ n * w - (length c + w) = omega arith in
-        rw (
-          filled,
-          cat-snoc rs r,
-          pad-fits (n * w) (c ++ f r) (omega (arith, l, room)),
-          l,
-          take-at c (replicate (n * w - length c) 0) (length rs * w) e,
-          z,
-          drop-append-add c (replicate (n * w - length c) 0) w,
-          drop-zeros w (n * w - length c),
-          y,
-          append-assoc,
-        )
-
--- a part laid in front of another is laid with it as one
-pub laid-before : (d us vs : List ℕ) (at : ℕ) → at + length us ≤ length d → laid (laid d (at + length us) vs) at us ≡ laid d at (us ++ vs)
-unfolding laid
-laid-before d us vs at h =
-    let e : List ℕ = laid d (at + length us) vs in
-    let n : at + length (us ++ vs) ≡ at + length us + length vs = rw length-append (omega arith) in
-    ap₂ (λ (x y : List ℕ). x ++ (us ++ y)) (take-laid d (at + length us) vs h at (omega arith)) (drop-laid-at d (at + length us) vs h)
-    ∙ rw (n, append-assoc us vs (drop (at + length us + length vs) d))
+  -- a block laid over the first free one is one block more
+  flat-push : (n : ℕ) (rs : List A) → length rs < n → (r : A)
+      → laid (pad (n * w) (cat f rs)) (length rs * w) (f r) ≡ pad (n * w) (cat f (rs ++ (r ∷ [])))
+  unfolding laid
+  flat-push n rs h r =
+      let c : List ℕ = cat f rs in
+      let e : length c ≡ length rs * w = length-cat f w wide rs in
+      let room : length c + w ≤ n * w = omega (arith, e, mul-le-mul-right {m = suc (length rs)} {n = n} w h) in
+      let z : length rs * w + length (f r) ≡ length c + w = omega (arith, wide r, e) in
+      let l : length (c ++ f r) ≡ length c + w = length-append c (f r) ∙ ap (λ (k : ℕ). length c + k) (wide r) in
+      let y : n * w - length c - w ≡ n * w - (length c + w) = omega arith in
+      rw (
+        pad-fits (n * w) c (omega arith),
+        cat-snoc rs r,
+        pad-fits (n * w) (c ++ f r) (omega (arith, l)),
+        l,
+        take-at c (replicate (n * w - length c) 0) (length rs * w) e,
+        z,
+        drop-append-add c (replicate (n * w - length c) 0) w,
+        drop-zeros w (n * w - length c),
+        y,
+        append-assoc,
+      )
 
 short-snoc : (ds : List (List ℕ)) (x : List ℕ) → Short ds → length x ≤ 480 → Short (ds ++ (x ∷ []))
 short-snoc ds x s h d m = ⊎-elim (s d) (λ o. subst (λ (y : List ℕ). length y ≤ 480) (sym (List·Memᴰ·eq-of-singleton o)) h) (List·Memᴰ·append-cases ds m)

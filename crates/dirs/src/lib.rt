@@ -1,6 +1,7 @@
 // Directory rows in a lent buffer: 482 bytes a row, the length of a normal spelling in two bytes and the spelling, zero filled to 480;
 // rows past the count are zero. `register_ancestors` is the Rust's, of src/env/opfs/mod.rs, with rows for its map, and `register_path`
-// what `create_dir_all` of pool.rs does to it. Nothing is refused here: who adds rows has counted what is missing, and knows that they suffice.
+// what `create_dir_all` of pool.rs does to it. Nothing is refused here: who adds rows has counted what is missing, and knows that they
+// suffice.
 ghost use mathlib.Core.Path.{_≡_};
 ghost use mathlib.Core.List.{[], _∷_, _++_};
 ghost use Prim.Native.Nat.{_+_, _*_, _≤_, _<_};
@@ -102,7 +103,10 @@ pub fn register_ancestors(dirs: &mut [u8], cap: usize, m: usize, p: &[u8]) -> us
 
 // Adds p, and then its ancestors, where they are in no row yet, and gives the new count.
 pub fn register_path(dirs: &mut [u8], cap: usize, m: usize, p: &[u8]) -> usize
-    requires { ⌜ FlatDirs cap m (now dirs) × (length (registeredWith (dirsOf (now dirs) m) (now p)) ≤ cap) × (length (normal (now p)) ≤ 480) ⌝ }
+    requires { ⌜
+        FlatDirs cap m (now dirs)
+        × (length (registeredWith (dirsOf (now dirs) m) (now p)) ≤ cap)
+        × (length (normal (now p)) ≤ 480) ⌝ }
     ensures rows { λ r. ⌜ dirsOf (now (dirs .exit)) r ≡ registeredWith (dirsOf (now (dirs .entry)) m) (now (p .entry)) ⌝ }
     ensures flat { λ r. ⌜ FlatDirs cap r (now (dirs .exit)) ⌝ }
 {

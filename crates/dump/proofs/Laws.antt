@@ -1,29 +1,27 @@
 -- The ways of a dump, over plain values: what each writer puts out, and how long it is.
 use Prim.Native.Nat.{ℕ, zero, suc, _+_, _-_, _*_, _/_, _%_, _≤_, _<_}
 use native.Mathlib.Omega.{arith}
-use native.Mathlib.Numerals.{add-one}
 use mathlib.Core.Path.{_≡_, sym, ap, _∙_}
 use mathlib.Core.Bool.{Bool, true, false}
 use mathlib.Core.List.{List, [], _∷_, _++_}
-use lib.ListN.{length, getD, take, drop, length-append, length-take, drop-of-length-le}
-use lib.Seq.{drop-cons}
+use lib.ListN.{length, getD, take, drop, length-append, length-take}
 use Rattle.lists.specs.Blocks.{cat}
 use Rattle.lists.specs.Sort.{sort}
 use Rattle.rows.specs.Rows.{Row, at, pathOf, genOf, lenOf, isDirty, rowsOf, Flat, Short}
 use Rattle.dirs.specs.Rows.{dirsOf}
 use Rattle.order.specs.Spans.{spelled, AllInside, before, slotOf, fileSpans, dirSpans}
-use Rattle.order.specs.Laws.{inside-sort}
+use Rattle.order.specs.AllDirs as all
 use Rattle.table.specs.declared.Pool.{Pool}
 use Rattle.table.specs.State.{Bufs, view, queueOf, poolOf, IsPool}
 use Rattle.table.specs.Laws.{pool-canon}
 use Rattle.table.specs.Reads.{pool-reads}
 use Rattle.admit.specs.Test.{isPool}
 use Rattle.writer.specs.Writer.{Shown, shown, pours, poured}
-use Rattle.writer.specs.Laws.{pours-none, pours-append, pours-byte, pours-then}
+use Rattle.writer.specs.Laws.{pours-byte, pours-then}
 use Rattle.answers.specs.Answers.{spaced, noText}
 use Rattle.answers.specs.Laws.{spaced-few, whole}
-use Rattle.dump.specs.Dump.{pathEnd, bitOf, fileNumbers, fileLine, dirLine, freeLine, filesText, dirsText, dumpText, dumpAnswer, Held}
-use Rattle.dump.proofs.Spans.{files-held, files-count, files-text, dirs-inside, dirs-count, dirs-text}
+use Rattle.dump.specs.Dump.{pathEnd, bitOf, fileNumbers, fileLine, dirLine, freeLine, filesText, dirsText, dumpText, dumpAnswer, SlotsBelow}
+use Rattle.dump.proofs.Spans.{files-held, files-count, files-text, dirs-text}
 
 -- ---- a line
 
@@ -69,22 +67,13 @@ dir-few b x = omega (arith, path-long (take (x % 512) (drop (x / 512) b)), lengt
 
 -- ---- lines one behind the other
 
-module _ (f : ℕ → List ℕ) (xs : List ℕ) (k : ℕ) where
-  pub cat-turn : (o : Shown) {o′ : Shown} → k < length xs → o′ ≡ pours (f (getD xs k 0)) o → pours (cat f (drop (k + 1) xs)) o′ ≡ pours (cat f (drop k xs)) o
-  unfolding cat
-  cat-turn o h e = rw (add-one, drop-cons xs k 0 h) (ap (pours (cat f (drop (suc k) xs))) e ∙ pours-append (f (getD xs k 0)) (cat f (drop (suc k) xs)) o)
-
-  pub cat-end : (o : Shown) → length xs ≤ k → o ≡ pours (cat f (drop k xs)) o
-  unfolding cat
-  cat-end o h = rw (drop-of-length-le xs h) (sym (pours-none o))
-
 pub cat-few : (f : ℕ → List ℕ) → ((x : ℕ) → length (f x) ≤ 600) → (xs : List ℕ) → length (cat f xs) ≤ length xs * 600
 unfolding cat
 cat-few f h [] = omega arith
 cat-few f h (x ∷ xs) = rw length-append (omega (arith, h x, cat-few f h xs))
 
-pub held-get : (n : ℕ) (xs : List ℕ) (k : ℕ) → Held n xs → k < length xs → slotOf (getD xs k 0) < n
-unfolding Held
+pub held-get : (n : ℕ) (xs : List ℕ) (k : ℕ) → SlotsBelow n xs → k < length xs → slotOf (getD xs k 0) < n
+unfolding SlotsBelow
 held-get n [] k a h = absurd (omega arith)
 held-get n (x ∷ xs) zero a h = a .0
 held-get n (x ∷ xs) (suc k) a h = held-get n xs k (a .1) (omega arith)
@@ -92,7 +81,7 @@ held-get n (x ∷ xs) (suc k) a h = held-get n xs k (a .1) (omega arith)
 -- ---- all files, all directories
 
 module _ (cap n : ℕ) (l s : List ℕ) (F : Flat cap n l s) {xs : List ℕ} (e : xs ≡ sort (before s) (fileSpans (rowsOf l s n))) where
-  pub sorted-held : Held n xs
+  pub sorted-held : SlotsBelow n xs
   sorted-held = rw e (files-held cap n l s F)
 
   pub sorted-few : length xs ≤ n
@@ -108,17 +97,17 @@ files-long cap n l s F h =
 
 module _ (m : ℕ) (b : List ℕ) (h : m * 482 ≤ length b) {xs : List ℕ} (e : xs ≡ sort (before b) (dirSpans (dirsOf b m))) where
   pub sorted-inside : AllInside b xs
-  sorted-inside = rw e (inside-sort b (dirSpans (dirsOf b m)) (dirs-inside m b h))
+  sorted-inside = rw e (all.sorted-inside b m h)
 
   pub sorted-count : length xs ≡ m
-  sorted-count = rw e (dirs-count m b h)
+  sorted-count = rw e (all.sorted-many b m h)
 
   pub dirs-put : (o : Shown) {o′ : Shown} → o′ ≡ pours (cat (λ x. dirLine (spelled b x)) xs) o → o′ ≡ pours (dirsText (dirsOf b m)) o
   dirs-put o f = f ∙ ap (λ (t : List ℕ). pours t o) (ap (cat (λ x. dirLine (spelled b x))) e ∙ dirs-text m b h)
 
 pub dirs-long : (m : ℕ) (b : List ℕ) → m * 482 ≤ length b → m ≤ 256 → length (dirsText (dirsOf b m)) ≤ 153600
 dirs-long m b h k =
-    omega (arith, ap length (dirs-text m b h), cat-few (λ x. dirLine (spelled b x)) (dir-few b) (sort (before b) (dirSpans (dirsOf b m))), dirs-count m b h)
+    omega (arith, ap length (dirs-text m b h), cat-few (λ x. dirLine (spelled b x)) (dir-few b) (sort (before b) (dirSpans (dirsOf b m))), all.sorted-many b m h)
 
 -- ---- the whole
 

@@ -1,43 +1,28 @@
 -- The spans that a dump sorts: how many they are, where they lie, and what lines they stand for.
-use Prim.Native.Nat.{ℕ, zero, suc, _+_, _*_, _≤_, _<_}
+use Prim.Native.Nat.{ℕ, _*_, _≤_, _<_}
 use native.Mathlib.Omega.{arith}
-use mathlib.Core.Path.{_≡_, refl, sym, ap, ap₂, _∙_}
-use mathlib.Core.Bool.{Bool, true}
-use mathlib.Core.List.{List, [], _∷_, _++_, map}
-use lib.ListN.{length, getD, take, drop, length-map, drop-of-length-le}
-use lib.Seq.{sets, sets-eq, length-sets, take-at, drop-cons}
+use mathlib.Core.Path.{_≡_, sym, ap, _∙_}
+use mathlib.Core.Bool.{Bool}
+use mathlib.Core.List.{List, [], _∷_, map}
+use lib.ListN.{length, take}
+use lib.Seq.{sets, sets-eq, length-sets, take-at}
 use Rattle.lists.specs.Runs.{range}
 use Rattle.lists.specs.Blocks.{cat}
 use Rattle.lists.specs.Sort.{All, all-keep, all-range, all-sort, keep, sort}
 use Rattle.rows.specs.Rows.{Row, at, isBound, rowsOf, Flat}
 use Rattle.dirs.specs.Rows.{dirsOf}
-use Rattle.dirs.specs.RowLaws.{length-dirs}
-use Rattle.order.specs.Spans.{spelled, AllInside, before, fileSpan, dirSpan, slotOf, fileSpans, dirSpans, fileBefore, inOrder}
-use Rattle.order.specs.Laws.{length-sorted, spelled-sort}
-use Rattle.order.specs.Picks.{picks-few, picks-inside, spell-each, file-spans, dir-spans, file-inside, file-slot, dir-inside, dir-spelled}
+use Rattle.order.specs.Spans.{spelled, AllInside, before, fileSpan, slotOf, fileSpans, dirSpans, fileBefore}
+use Rattle.order.specs.Laws.{length-sorted}
+use Rattle.order.specs.Picks.{picks-few, picks-inside, file-spans, file-inside, file-slot}
+use Rattle.order.specs.AllDirs.{cat-map, dirs-many, sorted-cat}
 use Rattle.order.specs.Theorems.{files-sorted}
-use Rattle.dump.specs.Dump.{fileLine, dirLine, filesOf, filesText, dirsText, Held}
+use Rattle.dump.specs.Dump.{fileLine, dirLine, filesOf, filesText, dirsText, SlotsBelow}
 
 -- ---- lists
-
-length-range : (i k : ℕ) → length (range i k) ≡ k
-unfolding range
-length-range i zero = refl
-length-range i (suc k) = ap suc (length-range (suc i) k)
 
 all-mapped : (f : ℕ → ℕ) (P : ℕ → Type 0) (xs : List ℕ) → All (λ x. P (f x)) xs → All P (map f xs)
 all-mapped f P [] a = tt
 all-mapped f P (x ∷ xs) a = (a .0, all-mapped f P xs (a .1))
-
-cat-map : {A B : Type 0} (f : A → B) (g : B → List ℕ) (h : A → List ℕ) → ((x : A) → g (f x) ≡ h x) → (xs : List A) → cat g (map f xs) ≡ cat h xs
-unfolding cat
-cat-map f g h e [] = refl
-cat-map f g h e (x ∷ xs) = ap₂ (λ (p q : List ℕ). p ++ q) (e x) (cat-map f g h e xs)
-
-map-get : (ds : List (List ℕ)) (i k : ℕ) → i + k ≡ length ds → map (λ (j : ℕ). getD ds j []) (range i k) ≡ drop i ds
-unfolding range
-map-get ds i zero h = sym (drop-of-length-le ds {i = i} (omega arith))
-map-get ds i (suc k) h = ap (λ (l : List (List ℕ)). getD ds i [] ∷ l) (map-get ds (suc i) k (omega arith)) ∙ sym (drop-cons ds i [] (omega arith))
 
 -- what was written to the front is read there
 front-back : (l xs d : List ℕ) (k n : ℕ) → k ≡ length xs → d ≡ sets l 0 xs → length xs ≤ n → n ≤ length l → (k ≤ length d) × (take k d ≡ xs)
@@ -63,8 +48,8 @@ module _ (cap n : ℕ) (l s : List ℕ) (F : Flat cap n l s) where
   pub files-inside : AllInside s (fileSpans rs)
   files-inside = rw (file-spans l s n) (picks-inside s (fileSpan rs) held n (file-inside cap n l s F))
 
-  pub files-held : Held n (sort (before s) (fileSpans rs))
-  unfolding Held
+  pub files-held : SlotsBelow n (sort (before s) (fileSpans rs))
+  unfolding SlotsBelow
   files-held =
       let p = all-range (λ i. slotOf (fileSpan rs i) < n) 0 n (λ i a h. omega (arith, file-slot cap n l s F i)) in
       all-sort (before s) (λ x. slotOf x < n) (fileSpans rs)
@@ -86,26 +71,10 @@ module _ (m : ℕ) (b : List ℕ) (h : m * 482 ≤ length b) where
   abbrev ds : List (List ℕ)
   ds = dirsOf b m
 
-  pub dirs-many : length (dirSpans ds) ≡ m
-  unfolding dirSpans
-  dirs-many = length-map (range 0 (length ds)) (dirSpan ds) ∙ length-range 0 (length ds) ∙ length-dirs b m
-
   -- as they were written
   pub dirs-front : (w d : List ℕ) → d ≡ sets w 0 (dirSpans ds) → m ≤ length w → take m d ≡ dirSpans ds
-  dirs-front w d f k = front-back w (dirSpans ds) d m m (sym dirs-many) f (omega (arith, dirs-many)) k .1
-
-  pub dirs-inside : AllInside b (dirSpans ds)
-  dirs-inside = rw (dir-spans b m) (picks-inside b (dirSpan ds) (λ (j : ℕ). true) m (dir-inside m b h))
-
-  spelled-dirs : map (spelled b) (dirSpans ds) ≡ ds
-  unfolding dirSpans
-  spelled-dirs = spell-each b (dirSpan ds) (λ j. getD ds j []) (dir-spelled m b h) (range 0 (length ds)) ∙ map-get ds 0 (length ds) (omega arith)
+  dirs-front w d f k = front-back w (dirSpans ds) d m m (sym (dirs-many b m h)) f (omega (arith, dirs-many b m h)) k .1
 
   pub dirs-text : cat (λ x. dirLine (spelled b x)) (sort (before b) (dirSpans ds)) ≡ dirsText ds
   unfolding dirsText
-  dirs-text =
-      sym (cat-map (spelled b) dirLine (λ x. dirLine (spelled b x)) (λ x. refl) (sort (before b) (dirSpans ds)))
-      ∙ ap (cat dirLine) (spelled-sort b (dirSpans ds) ∙ ap inOrder spelled-dirs)
-
-  pub dirs-count : length (sort (before b) (dirSpans ds)) ≡ m
-  dirs-count = length-sorted (before b) (dirSpans ds) ∙ dirs-many
+  dirs-text = sorted-cat b m h dirLine

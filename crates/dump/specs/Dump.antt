@@ -57,5 +57,5 @@ dumpAnswer b = cond (isPool b) (dumpText (view b)) (noText 1)
 -- ---- spans of files, as they are printed
 
 -- The slot of each is one of the first n.
-unfoldable pub Held : ℕ → List ℕ → Type 0
-Held n xs = All (λ x. slotOf x < n) xs
+unfoldable pub SlotsBelow : ℕ → List ℕ → Type 0
+SlotsBelow n xs = All (λ x. slotOf x < n) xs

@@ -11,13 +11,14 @@ ghost use Rattle.rows.specs.Rows.{rowsOf, Flat};
 ghost use Rattle.dirs.specs.Rows.{dirsOf};
 ghost use Rattle.table.specs.State.{bufs, view, IsPool};
 ghost use Rattle.order.specs.Spans.{Inside, AllInside, spelled, slotOf, fileSpans, dirSpans};
-ghost use Rattle.writer.specs.Writer.{shown, pours, poured};
-ghost use Rattle.dump.specs.Dump.{pathEnd, bitOf, fileNumbers, fileLine, dirLine, filesText, dirsText, dumpText, dumpAnswer, Held};
+ghost use Rattle.writer.specs.Writer.{Puts, PutsAll};
+ghost use Rattle.dump.specs.Dump.{pathEnd, bitOf, fileNumbers, fileLine, dirLine, filesText, dirsText, dumpText};
+ghost use Rattle.dump.specs.Dump.{dumpAnswer, SlotsBelow};
 
 // A space, a path, and the line's end.
 fn put_path(out: &mut [u8], at: usize, path: &[u8]) -> usize
     requires { ⌜ at + length (now path) + 2 < 2 ^ 64 ⌝ }
-    ensures { λ r. ⌜ shown (now (out .exit)) r ≡ pours (pathEnd (now (path .entry))) (shown (now (out .entry)) at) ⌝ }
+    ensures { λ r. ⌜ Puts (pathEnd (now (path .entry))) out at r ⌝ }
 {
     let a = writer::put_byte(out, at, b' ');
     let b = writer::put_bytes(out, a, path);
@@ -44,7 +45,7 @@ fn put_numbers(
     at: usize,
 ) -> usize
     requires { ⌜ at + 85 < 2 ^ 64 ⌝ }
-    ensures { λ r. ⌜ shown (now (out .exit)) r ≡ pours (fileNumbers slot generation len dirty) (shown (now (out .entry)) at) ⌝ }
+    ensures { λ r. ⌜ Puts (fileNumbers slot generation len dirty) out at r ⌝ }
 {
     let a = writer::put_byte(out, at, b'f');
     let b = answers::put_number(out, a, slot as u64);
@@ -64,7 +65,7 @@ fn put_file(
     at: usize,
 ) -> usize
     requires { ⌜ Flat cap n (now nums) (now names) × (i < n) × (at + 600 < 2 ^ 64) ⌝ }
-    ensures { λ r. ⌜ shown (now (out .exit)) r ≡ pours (fileLine (rowsOf (now (nums .entry)) (now (names .entry)) n) i) (shown (now (out .entry)) at) ⌝ }
+    ensures { λ r. ⌜ Puts (fileLine (rowsOf (now (nums .entry)) (now (names .entry)) n) i) out at r ⌝ }
 {
     let start = i * 480;
     let end = start + rows::path_len(nums, names, cap, n, i);
@@ -85,8 +86,9 @@ fn put_files(
     out: &mut [u8],
     at: usize,
 ) -> usize
-    requires { ⌜ Flat cap n (now nums) (now names) × Held n (now spans) × (at + length (now spans) * 600 < 2 ^ 64) ⌝ }
-    ensures { λ r. ⌜ shown (now (out .exit)) r ≡ pours (cat (λ x. fileLine (rowsOf (now (nums .entry)) (now (names .entry)) n) (slotOf x)) (now (spans .entry))) (shown (now (out .entry)) at) ⌝ }
+    requires { ⌜ Flat cap n (now nums) (now names) × SlotsBelow n (now spans) × (at + length (now spans) * 600 < 2 ^ 64) ⌝ }
+    ensures { λ r. ⌜
+        Puts (cat (λ x. fileLine (rowsOf (now (nums .entry)) (now (names .entry)) n) (slotOf x)) (now (spans .entry))) out at r ⌝ }
 {
     let mut a = at;
     let mut k = 0;
@@ -108,8 +110,12 @@ fn put_sorted_files(
     out: &mut [u8],
     at: usize,
 ) -> usize
-    requires { ⌜ Flat cap n (now nums) (now names) × (now spans ≡ fileSpans (rowsOf (now nums) (now names) n)) × (n ≤ 64) × (at + 38400 < 2 ^ 64) ⌝ }
-    ensures { λ r. ⌜ shown (now (out .exit)) r ≡ pours (filesText (rowsOf (now (nums .entry)) (now (names .entry)) n)) (shown (now (out .entry)) at) ⌝ }
+    requires { ⌜
+        Flat cap n (now nums) (now names)
+        × (now spans ≡ fileSpans (rowsOf (now nums) (now names) n))
+        × (n ≤ 64)
+        × (at + 38400 < 2 ^ 64) ⌝ }
+    ensures { λ r. ⌜ Puts (filesText (rowsOf (now (nums .entry)) (now (names .entry)) n)) out at r ⌝ }
 {
     order::sort(names, spans);
     put_files(nums, names, cap, n, spans, out, at)
@@ -125,7 +131,7 @@ fn put_all_files(
     at: usize,
 ) -> usize
     requires { ⌜ Flat cap n (now nums) (now names) × (n ≤ 64) × (at + 38400 < 2 ^ 64) ⌝ }
-    ensures { λ r. ⌜ shown (now (out .exit)) r ≡ pours (filesText (rowsOf (now (nums .entry)) (now (names .entry)) n)) (shown (now (out .entry)) at) ⌝ }
+    ensures { λ r. ⌜ Puts (filesText (rowsOf (now (nums .entry)) (now (names .entry)) n)) out at r ⌝ }
 {
     let mut spans = [0u32; 64];
     let count = order::all_files(nums, names, cap, n, &mut spans);
@@ -135,7 +141,7 @@ fn put_all_files(
 // The line of the directory whose spelling is the part x.
 fn put_dir(dirs: &[u8], x: u32, out: &mut [u8], at: usize) -> usize
     requires { ⌜ Inside (now dirs) x × (at + 600 < 2 ^ 64) ⌝ }
-    ensures { λ r. ⌜ shown (now (out .exit)) r ≡ pours (dirLine (spelled (now (dirs .entry)) x)) (shown (now (out .entry)) at) ⌝ }
+    ensures { λ r. ⌜ Puts (dirLine (spelled (now (dirs .entry)) x)) out at r ⌝ }
 {
     let start = (x / 512) as usize;
     let len = (x % 512) as usize;
@@ -146,7 +152,7 @@ fn put_dir(dirs: &[u8], x: u32, out: &mut [u8], at: usize) -> usize
 // The lines of directories, in the order of their spans.
 fn put_dirs(dirs: &[u8], spans: &[u32], out: &mut [u8], at: usize) -> usize
     requires { ⌜ AllInside (now dirs) (now spans) × (at + length (now spans) * 600 < 2 ^ 64) ⌝ }
-    ensures { λ r. ⌜ shown (now (out .exit)) r ≡ pours (cat (λ x. dirLine (spelled (now (dirs .entry)) x)) (now (spans .entry))) (shown (now (out .entry)) at) ⌝ }
+    ensures { λ r. ⌜ Puts (cat (λ x. dirLine (spelled (now (dirs .entry)) x)) (now (spans .entry))) out at r ⌝ }
 {
     let mut a = at;
     let mut k = 0;
@@ -160,7 +166,7 @@ fn put_dirs(dirs: &[u8], spans: &[u32], out: &mut [u8], at: usize) -> usize
 // The lines of all directories, whose spans are lent by row.
 fn put_sorted_dirs(dirs: &[u8], m: usize, spans: &mut [u32], out: &mut [u8], at: usize) -> usize
     requires { ⌜ (m * 482 ≤ length (now dirs)) × (now spans ≡ dirSpans (dirsOf (now dirs) m)) × (m ≤ 256) × (at + 153600 < 2 ^ 64) ⌝ }
-    ensures { λ r. ⌜ shown (now (out .exit)) r ≡ pours (dirsText (dirsOf (now (dirs .entry)) m)) (shown (now (out .entry)) at) ⌝ }
+    ensures { λ r. ⌜ Puts (dirsText (dirsOf (now (dirs .entry)) m)) out at r ⌝ }
 {
     order::sort(dirs, spans);
     put_dirs(dirs, spans, out, at)
@@ -169,7 +175,7 @@ fn put_sorted_dirs(dirs: &[u8], m: usize, spans: &mut [u32], out: &mut [u8], at:
 // The lines of all directories.
 fn put_all_dirs(dirs: &[u8], m: usize, out: &mut [u8], at: usize) -> usize
     requires { ⌜ (m * 482 ≤ length (now dirs)) × (m ≤ 256) × (at + 153600 < 2 ^ 64) ⌝ }
-    ensures { λ r. ⌜ shown (now (out .exit)) r ≡ pours (dirsText (dirsOf (now (dirs .entry)) m)) (shown (now (out .entry)) at) ⌝ }
+    ensures { λ r. ⌜ Puts (dirsText (dirsOf (now (dirs .entry)) m)) out at r ⌝ }
 {
     let mut spans = [0u32; 256];
     order::all_dirs(dirs, m, &mut spans);
@@ -179,9 +185,9 @@ fn put_all_dirs(dirs: &[u8], m: usize, out: &mut [u8], at: usize) -> usize
 // A pool, line by line.
 fn put_pool(nums: &[u64], names: &[u8], dirs: &[u8], pool: Pool, out: &mut [u8]) -> usize
     requires { ⌜ IsPool (bufs pool (now nums) (now names) (now dirs)) ⌝ }
-    ensures { λ r. ⌜ shown (now (out .exit)) r ≡ poured (dumpText (view (bufs pool (now (nums .entry)) (now (names .entry)) (now (dirs .entry))))) (now (out .entry)) ⌝ }
+    ensures { λ r. ⌜ PutsAll (dumpText (view (bufs pool (now (nums .entry)) (now (names .entry)) (now (dirs .entry))))) out r ⌝ }
 {
-    let cap = pool.rows;
+    let cap = pool.chosen.rows;
     let n = pool.held;
     let m = pool.dirs;
     let free = pool.free;
@@ -194,7 +200,7 @@ fn put_pool(nums: &[u64], names: &[u8], dirs: &[u8], pool: Pool, out: &mut [u8])
 
 // The answer to `dump`.
 pub fn say_dump(nums: &[u64], names: &[u8], dirs: &[u8], pool: Pool, out: &mut [u8]) -> usize
-    ensures { λ r. ⌜ shown (now (out .exit)) r ≡ poured (dumpAnswer (bufs pool (now (nums .entry)) (now (names .entry)) (now (dirs .entry)))) (now (out .entry)) ⌝ }
+    ensures { λ r. ⌜ PutsAll (dumpAnswer (bufs pool (now (nums .entry)) (now (names .entry)) (now (dirs .entry)))) out r ⌝ }
 {
     if !admit::pool_ok(nums, names, dirs, pool) {
         return answers::say_no(out, 1);

@@ -6,14 +6,14 @@ use mathlib.Core.Bool.{Bool, true, false, cond, false≢true}
 use mathlib.Core.List.{List}
 use lib.Dec.{eqb, ltb}
 use lib.ListN.{length, getD, set, drop, length-set, length-drop}
-use borrow.Author.Tests.{eq-eqb, ne-eqb, lt-ltb, le-ltb, ltb-false}
+use borrow.Author.Tests.{eq-eqb, ne-eqb, lt-ltb, le-ltb}
 use Rattle.lists.specs.Distinct.{In}
 use Rattle.path.specs.Path.{normal, ancestors}
 use Rattle.path.specs.Theorems.{normal-short}
 use Rattle.device.specs.declared.Place.{Place}
 use Rattle.device.specs.declared.Geometry.{Geometry}
 use Rattle.device.specs.Device.{Dev, dev, Shape, dataTruncateM}
-use Rattle.rows.specs.Rows.{Row, bound, at, isBound, genOf, lenOf, resized, find, rowsOf, Flat}
+use Rattle.rows.specs.Rows.{File, Row, file, bound, at, isBound, genOf, lenOf, resized, find, rowsOf, Flat}
 use Rattle.rows.specs.Laws.{length-rows}
 use Rattle.rows.specs.Find.{find-holds, holds-bound}
 use Rattle.dirs.specs.Dirs.{absent, registered}
@@ -25,15 +25,16 @@ use Rattle.table.specs.declared.Popped.{Popped}
 use Rattle.table.specs.State.{State, Valid, Bufs, bufs, view, poolOf, queueOf, flat, IsPool}
 use Rattle.table.specs.Queue.{queued, unqueued, spent, pushed, popped, ticked}
 use Rattle.table.specs.Laws.{is-pool, pool-canon, pool-rows, pool-dirs, together, queue-fits, pop-pool, pop-flat, spend-flat, push-flat, first-in, unqueued-valid, spent-valid}
+use Rattle.table.specs.Changes.{withRow, withDirs, row-flat}
 use Rattle.steps.specs.World.{World, world, Lent, lent, viewW, flatW, Ready}
-use Rattle.steps.specs.Steps.{fineM, withRow, releaseM}
-use Rattle.steps.specs.Laws.{row-flat}
-use Rattle.handles.specs.Outcome.{Outcome, outcome, flatO, None, came}
+use Rattle.steps.specs.Steps.{fineM, releaseM}
+use Rattle.steps.specs.Outcome.{Outcome, outcome, flatO, None, came}
 use Rattle.handles.specs.Handles.{resizedM}
 use Rattle.handles.specs.Laws.{stays}
 use Rattle.files.specs.declared.Reader.{Reader}
 use Rattle.files.specs.declared.Writer.{Writer}
 use Rattle.files.specs.Files.{roomFor, registers, binds, openReadM, Handle, handle, noHandle, reopenM, created, createM, admitsNew, openNewM, openWriteM, removeM}
+use Rattle.files.specs.Laws.{room-made}
 
 -- the rows and the directories of the buffers
 abbrev pub rowsIn : Bufs → List Row
@@ -72,22 +73,27 @@ dirs-fit cap m b F = omega (arith, F .few, dirs-long cap m b F)
 
 -- ---- bind
 
+-- the record with another count of directories
+abbrev pub withDirCount : ℕ → Pool → Pool
+withDirCount m q =
+    record { chosen = q .chosen; held = q .held; dirs = m; counter = q .counter; free = q .free; queue = q .queue }
+
 pub normal-fits : (path : List ℕ) → length path ≤ 480 → length (normal path) ≤ 480
 normal-fits path h = omega (arith, normal-short path)
 
-pub bind-is : (b : Bufs) → IsPool b → (i : ℕ) (path : List ℕ) (generation len : ℕ) (dirty : Bool) (l n d : List ℕ) (m : ℕ)
-    → rowsOf l n (b .pool .held) ≡ set (rowsIn b) i (bound path generation len dirty) → Flat (b .pool .rows) (b .pool .held) l n
-    → dirsOf d m ≡ registered (dirsIn b) path → FlatDirs (b .pool .«dir_rows») m d
-    → bufs (record { rows = b .pool .rows; «dir_rows» = b .pool .«dir_rows»; held = b .pool .held; dirs = m; counter = b .pool .counter; free = b .pool .free; queue = b .pool .queue }) l n d
-    ≡ flat (binds i path generation len dirty (view b))
-unfolding binds registers withRow view poolOf
-bind-is b P i path generation len dirty l n d m e F t G =
-    let s = binds i path generation len dirty (view b) in
-    let k : length (set (rowsIn b) i (bound path generation len dirty)) ≡ b .pool .held = length-set (rowsIn b) i (bound path generation len dirty) ∙ length-rows (b .nums) (b .names) (b .pool .held) in
+pub bind-is : (b : Bufs) → IsPool b → (i : ℕ) (path : List ℕ) (f : File) (l n d : List ℕ) (m : ℕ)
+    → rowsOf l n (b .pool .held) ≡ set (rowsIn b) i (bound path f) → Flat (b .pool .chosen .rows) (b .pool .held) l n
+    → dirsOf d m ≡ registered (dirsIn b) path → FlatDirs (b .pool .chosen .«dir_rows») m d
+    → bufs (withDirCount m (b .pool)) l n d ≡ flat (binds i path f (view b))
+unfolding binds registers withDirs withRow view poolOf
+bind-is b P i path f l n d m e F t G =
+    let s = binds i path f (view b) in
+    let r = bound path f in
+    let k : length (set (rowsIn b) i r) ≡ b .pool .held = length-set (rowsIn b) i r ∙ length-rows (b .nums) (b .names) (b .pool .held) in
     let o : length (registered (dirsIn b) path) ≡ m = ap length (sym t) ∙ length-dirs d m in
-    let f : length (queueOf (b .pool)) ≡ b .pool .free = ap (λ (x : Pool). x .free) (pool-canon b P) in
+    let u : length (queueOf (b .pool)) ≡ b .pool .free = ap (λ (x : Pool). x .free) (pool-canon b P) in
     let q = ap (λ (x : Pool). x .queue) (pool-canon b P) in
-    together s _ l n d (rw (k, o, f, q)) e F t G
+    together s _ l n d (rw (k, o, u, q)) e F t G
 
 -- ---- the file of a path
 
@@ -147,7 +153,7 @@ module _ (plan : List ℕ) (g : Geometry) (i : ℕ) (l : Lent) (P : IsPool (l .b
         rw (k, f) (ap (λ (x : Dev). outcome (x .place .last) noHandle (lent x b)) q ∙ ap (λ (x : Bufs). outcome (d .place .last) noHandle (lent d x)) (sym (P .canon)))
 
     pub reopen-done : e .place .last ≡ 0 → (y : ℕ) → y ≡ genOf row → (l₁ : List ℕ) → rowsOf l₁ (b .names) (b .pool .held) ≡ set (rowsIn b) i (resized 0 true row)
-        → Flat (b .pool .rows) (b .pool .held) l₁ (b .names)
+        → Flat (b .pool .chosen .rows) (b .pool .held) l₁ (b .names)
         → outcome 0 (handle i y 0) (lent e (bufs (b .pool) l₁ (b .names) (b .dirs))) ≡ flatO (reopenM plan g i keep (viewW l))
     unfolding reopenM resizedM flatO flatW viewW view
     reopen-done z y p l₁ r F =
@@ -188,7 +194,9 @@ module _ (g : Geometry) (l : Lent) (R : Ready g l) (p : 0 < l .bufs .pool .free)
 
   pub first-held : first < c₀ .pool .held
   unfolding view
-  first-held = omega (arith, R .pool .valid .inside first (first-in (view c₀) (R .pool .valid) queued-some), length-rows (c₀ .nums) (c₀ .names) (c₀ .pool .held))
+  first-held =
+      let ok = R .pool .valid in
+      omega (arith, ok .waiting .inside first (first-in (view c₀) ok queued-some), length-rows (c₀ .nums) (c₀ .names) (c₀ .pool .held))
 
   module _ (x : Popped) (ex : x ≡ popped (c₀ .pool)) where
     pub slot-first : x .slot ≡ first
@@ -224,18 +232,19 @@ module _ (g : Geometry) (l : Lent) (R : Ready g l) (p : 0 < l .bufs .pool .free)
       pub begun-pool : (view b₂ ≡ begun) × IsPool b₂
       begun-pool = is-pool begun b₂ begun-valid begun-flat
 
-      same-held : (q .held ≡ c₀ .pool .held) × (q .dirs ≡ c₀ .pool .dirs) × (q .«dir_rows» ≡ c₀ .pool .«dir_rows»)
+      same-held : (q .held ≡ c₀ .pool .held) × (q .dirs ≡ c₀ .pool .dirs) × (q .chosen .«dir_rows» ≡ c₀ .pool .chosen .«dir_rows»)
       unfolding ticked popped
-      same-held = (ap (λ (y : Pool). y .held) q-is, ap (λ (y : Pool). y .dirs) q-is, ap (λ (y : Pool). y .«dir_rows») q-is)
+      same-held = (ap (λ (y : Pool). y .held) q-is, ap (λ (y : Pool). y .dirs) q-is, ap (λ (y : Pool). y .chosen .«dir_rows») q-is)
 
       pub push-room : (q .free < 64) × (x .slot < 64)
       unfolding ticked popped view
       push-room =
           let f : q .free ≡ c₀ .pool .free - 1 = ap (λ (y : Pool). y .free) q-is in
-          (omega (arith, queued-few, free-long), omega (arith, slot-first, first-held, R .pool .valid .few, R .pool .valid .small, length-rows (c₀ .nums) (c₀ .names) (c₀ .pool .held)))
+          let n = R .pool .valid .counts in
+          (omega (arith, queued-few, free-long), omega (arith, slot-first, first-held, n .few, n .small, length-rows (c₀ .nums) (c₀ .names) (c₀ .pool .held)))
 
-      pub bind-ready : (path : List ℕ) → length path ≤ 480 → length (registered (dirsIn c₀) path) ≤ c₀ .pool .«dir_rows»
-          → (IsPool b₂ × (x .slot < q .held) × (length path ≤ 480)) × (length (registered (dirsOf (c₀ .dirs) (q .dirs)) path) ≤ q .«dir_rows»)
+      pub bind-ready : (path : List ℕ) → length path ≤ 480 → length (registered (dirsIn c₀) path) ≤ c₀ .pool .chosen .«dir_rows»
+          → (IsPool b₂ × (x .slot < q .held) × (length path ≤ 480)) × (length (registered (dirsOf (c₀ .dirs) (q .dirs)) path) ≤ q .chosen .«dir_rows»)
       bind-ready path s h =
           let k : x .slot < q .held = omega (arith, slot-first, first-held, same-held .0) in
           ((begun-pool .1, k, s), rw (same-held .1, same-held .2) h)
@@ -256,13 +265,14 @@ module _ (g : Geometry) (l : Lent) (R : Ready g l) (p : 0 < l .bufs .pool .free)
             ap (λ (y : Pool). bufs y (c₀ .nums) (c₀ .names) (c₀ .dirs)) (er ∙ ap (λ (j : ℕ). pushed j q) slot-first) ∙ push-flat begun b₂ begun-flat first few-left in
             rw f (ap₂ (λ (y : Dev) (z : Bufs). outcome (y .place .last) noHandle (lent y z)) cut-is w)
 
-        pub create-done : e .place .last ≡ 0 → (y : ℕ) → y ≡ c₀ .pool .counter → (u : Bufs) → u ≡ flat (binds (x .slot) path y 0 true (view b₂))
+        pub create-done : e .place .last ≡ 0 → (y : ℕ) → y ≡ c₀ .pool .counter → (u : Bufs) → u ≡ flat (binds (x .slot) path (file y 0 true) (view b₂))
             → outcome 0 (handle (x .slot) y 0) (lent e u) ≡ flatO (createM plan g path (viewW l))
         unfolding createM created flatO flatW viewW view
         create-done z y ey u eu =
             let f : fineM d₂ ≡ true = sym (ap fineM cut-is) ∙ eq-eqb (e .place .last) 0 z in
-            let v : u ≡ flat (binds first path (c₀ .pool .counter) 0 true begun) =
-            eu ∙ ap (λ (t : State). flat (binds (x .slot) path y 0 true t)) (begun-pool .0) ∙ ap₂ (λ (j k : ℕ). flat (binds j path k 0 true begun)) slot-first ey in
+            let v : u ≡ flat (binds first path (file (c₀ .pool .counter) 0 true) begun) =
+            eu ∙ ap (λ (t : State). flat (binds (x .slot) path (file y 0 true) t)) (begun-pool .0)
+            ∙ ap₂ (λ (j k : ℕ). flat (binds j path (file k 0 true) begun)) slot-first ey in
             rw f
             (ap₂ (λ (j k : ℕ). outcome 0 (handle j k 0) (lent e u)) slot-first ey
             ∙ ap (λ (n : ℕ). outcome n (handle first (c₀ .pool .counter) 0) (lent e u)) (sym z)
@@ -273,21 +283,16 @@ module _ (g : Geometry) (l : Lent) (R : Ready g l) (p : 0 < l .bufs .pool .free)
 -- what a room of 0 means
 pub room-means : (need : ℕ) (path : List ℕ) (cap : ℕ) (ds : List (List ℕ)) (counter n : ℕ) → n ≡ roomFor need path cap ds counter → n ≡ 0
     → (length (registered ds path) ≤ cap) × (counter + need ≤ 2 ^ 63)
-unfolding roomFor
-room-means need path cap ds counter n e z = go (ltb cap (length (registered ds path))) (ltb (2 ^ 63) (counter + need)) refl refl (sym e ∙ z)
-  where
-    go : (a b : Bool) → ltb cap (length (registered ds path)) ≡ a → ltb (2 ^ 63) (counter + need) ≡ b → _≡_ {A = ℕ} (cond a 8 (cond b 9 0)) 0
-        → (length (registered ds path) ≤ cap) × (counter + need ≤ 2 ^ 63)
-    go true b x y o = absurd (omega arith)
-    go false true x y o = absurd (omega arith)
-    go false false x y o = (ltb-false cap (length (registered ds path)) x, ltb-false (2 ^ 63) (counter + need) y)
+room-means need path cap ds counter n e z = room-made need path cap ds counter (sym e ∙ z)
 
 -- what makes a file possible
 pub some-ready : (g : Geometry) (l : Lent) (path : List ℕ) → Ready g l → (l .bufs .pool .free ≡ 0 → ⊥) → length path ≤ 480
-    → (n : ℕ) → n ≡ roomFor 1 path (l .bufs .pool .«dir_rows») (dirsIn (l .bufs)) (l .bufs .pool .counter) → n ≡ 0
-    → Ready g l × (((0 < l .bufs .pool .free) × (l .bufs .pool .counter < 2 ^ 63) × (length path ≤ 480)) × (length (registered (dirsIn (l .bufs)) path) ≤ l .bufs .pool .«dir_rows»))
+    → (n : ℕ) → n ≡ roomFor 1 path (l .bufs .pool .chosen .«dir_rows») (dirsIn (l .bufs)) (l .bufs .pool .counter) → n ≡ 0
+    → Ready g l
+    × (((0 < l .bufs .pool .free) × (l .bufs .pool .counter < 2 ^ 63) × (length path ≤ 480))
+    × (length (registered (dirsIn (l .bufs)) path) ≤ l .bufs .pool .chosen .«dir_rows»))
 some-ready g l path R f h n en z =
-    let m = room-means 1 path (l .bufs .pool .«dir_rows») (dirsIn (l .bufs)) (l .bufs .pool .counter) n en z in
+    let m = room-means 1 path (l .bufs .pool .chosen .«dir_rows») (dirsIn (l .bufs)) (l .bufs .pool .counter) n en z in
     (R, ((omega (arith, f), omega (arith, m .1), h), m .0))
 
 -- a new file: 7, 8 or 9, or it is made
@@ -303,7 +308,7 @@ module _ (plan : List ℕ) (g : Geometry) (path : List ℕ) (l : Lent) (P : IsPo
   unfolding openNewM admitsNew viewW view
   none-free f = let z : eqb (length (queueOf (f₀ .pool))) 0 ≡ true = eq-eqb (length (queueOf (f₀ .pool))) 0 (free-is ∙ f) in rw z (stays 7 noHandle l P)
 
-  module _ (f : f₀ .pool .free ≡ 0 → ⊥) (n : ℕ) (en : n ≡ roomFor 1 path (f₀ .pool .«dir_rows») (dirsIn f₀) (f₀ .pool .counter)) where
+  module _ (f : f₀ .pool .free ≡ 0 → ⊥) (n : ℕ) (en : n ≡ roomFor 1 path (f₀ .pool .chosen .«dir_rows») (dirsIn f₀) (f₀ .pool .counter)) where
     some-free : eqb (length (queueOf (f₀ .pool))) 0 ≡ false
     some-free = ne-eqb (length (queueOf (f₀ .pool))) 0 (λ z. f (sym free-is ∙ z))
 
@@ -336,11 +341,13 @@ module _ (plan : List ℕ) (g : Geometry) (path : List ℕ) (keep : Bool) (l : L
       pub open-full : IsPool (l .bufs) → l .bufs .pool .free ≡ 0 → outcome 7 noHandle l ≡ flatO (openWriteM plan g path keep (viewW l))
       open-full P f = open-new (outcome 7 noHandle l) (none-free plan g path l P f)
 
-      pub open-refused : IsPool (l .bufs) → (l .bufs .pool .free ≡ 0 → ⊥) → (n : ℕ) → n ≡ roomFor 1 path (l .bufs .pool .«dir_rows») (dirsIn (l .bufs)) (l .bufs .pool .counter) → (n ≡ 0 → ⊥)
+      pub open-refused : IsPool (l .bufs) → (l .bufs .pool .free ≡ 0 → ⊥)
+          → (n : ℕ) → n ≡ roomFor 1 path (l .bufs .pool .chosen .«dir_rows») (dirsIn (l .bufs)) (l .bufs .pool .counter) → (n ≡ 0 → ⊥)
           → outcome n noHandle l ≡ flatO (openWriteM plan g path keep (viewW l))
       open-refused P f n en ne = open-new (outcome n noHandle l) (no-room plan g path l P f n en ne)
 
-      pub open-created : IsPool (l .bufs) → (l .bufs .pool .free ≡ 0 → ⊥) → (n : ℕ) → n ≡ roomFor 1 path (l .bufs .pool .«dir_rows») (dirsIn (l .bufs)) (l .bufs .pool .counter) → n ≡ 0
+      pub open-created : IsPool (l .bufs) → (l .bufs .pool .free ≡ 0 → ⊥)
+          → (n : ℕ) → n ≡ roomFor 1 path (l .bufs .pool .chosen .«dir_rows») (dirsIn (l .bufs)) (l .bufs .pool .counter) → n ≡ 0
           → (x : Outcome Handle Lent) → x ≡ flatO (createM plan g path (viewW l)) → x ≡ flatO (openWriteM plan g path keep (viewW l))
       open-created P f n en z x q = open-new x (enough plan g path l P f n en z x q)
 
@@ -349,7 +356,7 @@ module _ (plan : List ℕ) (g : Geometry) (path : List ℕ) (keep : Bool) (l : L
 -- a file's slot is not free
 pub file-busy : (b : Bufs) → IsPool b → (path : List ℕ) (i : ℕ) → i ≡ find path (rowsIn b) → i < b .pool .held → In i (queueOf (b .pool)) → ⊥
 unfolding view
-file-busy b P path i e h m = false≢true (sym (P .valid .idle i m) ∙ found-row path (b .nums) (b .names) (b .pool .held) i e h .1)
+file-busy b P path i e h m = false≢true (sym (P .valid .waiting .idle i m) ∙ found-row path (b .nums) (b .names) (b .pool .held) i e h .1)
 
 module _ (plan : List ℕ) (g : Geometry) (path : List ℕ) (l : Lent) (P : IsPool (l .bufs)) (i : ℕ) (e : i ≡ find path (rowsIn (l .bufs))) where
   pub remove-none : l .bufs .pool .held ≤ i → outcome 5 tt l ≡ flatO (removeM plan g path (viewW l))

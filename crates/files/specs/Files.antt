@@ -6,13 +6,14 @@ use lib.Dec.{eqb, ltb}
 use lib.ListN.{length, getD}
 use Rattle.device.specs.declared.Geometry.{Geometry}
 use Rattle.device.specs.Device.{Dev, dataTruncateM}
-use Rattle.rows.specs.Rows.{Row, bound, at, genOf, lenOf, find}
+use Rattle.rows.specs.Rows.{File, file, bound, at, genOf, lenOf, find}
 use Rattle.dirs.specs.Dirs.{registered}
 use Rattle.table.specs.State.{State}
 use Rattle.table.specs.Queue.{queued, unqueued, spent}
+use Rattle.table.specs.Changes.{withRow, withDirs}
 use Rattle.steps.specs.World.{World, world}
-use Rattle.steps.specs.Steps.{fineM, withRow, releaseM}
-use Rattle.handles.specs.Outcome.{Outcome, outcome, None, came}
+use Rattle.steps.specs.Steps.{fineM, releaseM}
+use Rattle.steps.specs.Outcome.{Outcome, outcome, None, came}
 use Rattle.handles.specs.Handles.{resizedM}
 use Rattle.files.specs.declared.Reader.{Reader}
 
@@ -27,17 +28,17 @@ unfoldable pub roomFor : ℕ → List ℕ → ℕ → List (List ℕ) → ℕ �
 roomFor need path cap dirs counter = cond (ltb cap (length (registered dirs path))) 8 (cond (ltb (2 ^ 63) (counter + need)) 9 0)
 
 abbrev pub room : ℕ → List ℕ → State → ℕ
-room need path s = roomFor need path (s .dirCap) (s .dirs) (s .counter)
+room need path s = roomFor need path (s .chosen .«dir_rows») (s .dirs) (s .counter)
 
 -- ---- a file bound
 
 -- The ancestors of a path are registered.
 unfoldable pub registers : List ℕ → State → State
-registers path s = record { cap = s .cap; dirCap = s .dirCap; rows = s .rows; dirs = registered (s .dirs) path; queue = s .queue; counter = s .counter }
+registers path s = withDirs (registered (s .dirs) path) s
 
 -- Slot i becomes the file of a path, whose ancestors are registered.
-unfoldable pub binds : ℕ → List ℕ → ℕ → ℕ → Bool → State → State
-binds i path generation len dirty s = registers path (withRow i (bound path generation len dirty) s)
+unfoldable pub binds : ℕ → List ℕ → File → State → State
+binds i path f s = registers path (withRow i (bound path f) s)
 
 -- ---- open_read
 
@@ -77,7 +78,7 @@ unfoldable pub created : List ℕ → Bool → State → State
 created path fine s =
     let i = getD (s .queue) 0 0 in
     let t = spent (unqueued s) in
-    cond fine (binds i path (s .counter) 0 true t) (queued i t)
+    cond fine (binds i path (file (s .counter) 0 true) t) (queued i t)
 
 unfoldable pub createM : List ℕ → Geometry → List ℕ → World → Outcome Handle World
 createM plan g path w =

@@ -15,7 +15,7 @@ use Rattle.path.specs.Theorems.{same-path, normal-short}
 use Rattle.device.specs.declared.Geometry.{Geometry}
 use Rattle.device.specs.Device.{Dev, dataTruncateM}
 use Rattle.device.specs.Laws.{truncate}
-use Rattle.rows.specs.Rows.{Row, bound, at, isBound, pathOf, genOf, lenOf, holds, find}
+use Rattle.rows.specs.Rows.{File, file, bound, at, isBound, pathOf, genOf, holds, find}
 use Rattle.rows.specs.Find.{find-holds, find-none, holds-bound, holds-path}
 use Rattle.dirs.specs.Dirs.{registered}
 use Rattle.dirs.specs.Joined.{joined-short}
@@ -23,41 +23,31 @@ use Rattle.dirs.specs.Laws.{registered-dirs, ancestors-short}
 use Rattle.table.specs.State.{State, Valid}
 use Rattle.table.specs.Queue.{queued, unqueued, spent}
 use Rattle.table.specs.Laws.{first-in, first-gone, queued-valid, unqueued-valid, spent-valid}
+use Rattle.table.specs.Changes.{withRow, withDirs, Admits, with-row-valid, with-dirs-valid}
 use Rattle.steps.specs.World.{World, world, Fit}
-use Rattle.steps.specs.Steps.{fineM, withRow, releaseM}
-use Rattle.steps.specs.Laws.{Kept, call-kept, Admits, with-row-valid, release-fit}
-use Rattle.handles.specs.Outcome.{outcome, None, came}
+use Rattle.steps.specs.Steps.{fineM, releaseM}
+use Rattle.steps.specs.Laws.{Kept, call-kept, release-fit}
+use Rattle.steps.specs.Outcome.{outcome, None, came}
 use Rattle.handles.specs.Laws.{resized-fit}
 use Rattle.files.specs.Files.{roomFor, registers, binds, noHandle, reopenM, created, createM, admitsNew, openNewM, openWriteM, removeM}
 
 -- ---- a file bound
 
-pub registers-valid : (s : State) (path : List ℕ) → Valid s → length path ≤ 480 → length (registered (s .dirs) path) ≤ s .dirCap → Valid (registers path s)
+pub registers-valid : (s : State) (path : List ℕ) → Valid s → length path ≤ 480 → length (registered (s .dirs) path) ≤ s .chosen .«dir_rows»
+    → Valid (registers path s)
 unfolding registers
 registers-valid s path ok short h =
-    record {
-      small = ok .small;
-      dirs-small = ok .dirs-small;
-      few = ok .few;
-      dirs-few = h;
-      text = ok .text;
-      short = ok .short;
-      apart = ok .apart;
-      young = ok .young;
-      begun = ok .begun;
-      counted = ok .counted;
-      inside = ok .inside;
-      idle = ok .idle;
-      once = ok .once;
-      dirs-short = joined-short (s .dirs) (ancestors path) (ok .dirs-short) (ancestors-short path (omega (arith, normal-short path)));
-      directories = registered-dirs (s .dirs) path (ok .directories);
-    }
+    with-dirs-valid s (registered (s .dirs) path) ok h
+    (record {
+      short = joined-short (s .dirs) (ancestors path) (ok .directories .short) (ancestors-short path (omega (arith, normal-short path)));
+      dirs = registered-dirs (s .dirs) path (ok .directories .dirs);
+    })
 
 -- A bound row may stand at i: no other row holds its path, and i is not free.
-pub bound-admitted : (s : State) (i : ℕ) (path : List ℕ) (generation len : ℕ) (dirty : Bool) → isText path ≡ true → length path ≤ 480 → generation < s .counter
-    → ((j : ℕ) → j ≢ i → holds path (at (s .rows) j) ≡ false) → (In i (s .queue) → ⊥) → Admits s i (bound path generation len dirty)
+pub bound-admitted : (s : State) (i : ℕ) (path : List ℕ) (f : File) → isText path ≡ true → length path ≤ 480 → f .gen < s .counter
+    → ((j : ℕ) → j ≢ i → holds path (at (s .rows) j) ≡ false) → (In i (s .queue) → ⊥) → Admits s i (bound path f)
 unfolding pathOf genOf isBound
-bound-admitted s i path generation len dirty t h y other busy =
+bound-admitted s i path f t h y other busy =
     record {
       text = t;
       short = h;
@@ -66,11 +56,10 @@ bound-admitted s i path generation len dirty t h y other busy =
       idle = λ b m. busy m;
     }
 
-pub binds-valid : (s : State) (i : ℕ) (path : List ℕ) (generation len : ℕ) (dirty : Bool) → Valid s → i < length (s .rows) → length path ≤ 480
-    → Admits s i (bound path generation len dirty) → length (registered (s .dirs) path) ≤ s .dirCap → Valid (binds i path generation len dirty s)
+pub binds-valid : (s : State) (i : ℕ) (path : List ℕ) (f : File) → Valid s → i < length (s .rows) → length path ≤ 480
+    → Admits s i (bound path f) → length (registered (s .dirs) path) ≤ s .chosen .«dir_rows» → Valid (binds i path f s)
 unfolding binds withRow
-binds-valid s i path generation len dirty ok h short a f =
-    registers-valid (withRow i (bound path generation len dirty) s) path (with-row-valid s i (bound path generation len dirty) ok h a) short f
+binds-valid s i path f ok h short a few = registers-valid (withRow i (bound path f) s) path (with-row-valid s i (bound path f) ok h a) short few
 
 -- ---- "Open for writing"
 
@@ -87,12 +76,13 @@ room-made need path cap ds counter z = go (ltb cap (length (registered ds path))
     go false false x y o = (ltb-false cap (length (registered ds path)) x, ltb-false (2 ^ 63) (counter + need) y)
 
 -- And for a slot of its own.
-pub admits-means : (path : List ℕ) (s : State) → admitsNew path s ≡ 0 → (0 < length (s .queue)) × (roomFor 1 path (s .dirCap) (s .dirs) (s .counter) ≡ 0)
+pub admits-means : (path : List ℕ) (s : State) → admitsNew path s ≡ 0
+    → (0 < length (s .queue)) × (roomFor 1 path (s .chosen .«dir_rows») (s .dirs) (s .counter) ≡ 0)
 unfolding admitsNew
 admits-means path s z = go (eqb (length (s .queue)) 0) refl z
   where
-    go : (a : Bool) → eqb (length (s .queue)) 0 ≡ a → cond a 7 (roomFor 1 path (s .dirCap) (s .dirs) (s .counter)) ≡ 0
-        → (0 < length (s .queue)) × (roomFor 1 path (s .dirCap) (s .dirs) (s .counter) ≡ 0)
+    go : (a : Bool) → eqb (length (s .queue)) 0 ≡ a → cond a 7 (roomFor 1 path (s .chosen .«dir_rows») (s .dirs) (s .counter)) ≡ 0
+        → (0 < length (s .queue)) × (roomFor 1 path (s .chosen .«dir_rows») (s .dirs) (s .counter) ≡ 0)
     go true e o = absurd (omega arith)
     go false e o = (omega (arith, eqb-false (length (s .queue)) 0 e), o)
 
@@ -108,20 +98,20 @@ module _ (path : List ℕ) (s : State) (ok : Valid s) (some : 0 < length (s .que
   begun-valid = spent-valid (unqueued s) (unqueued-valid s ok) left
 
   pub first-held : first < length (s .rows)
-  first-held = ok .inside first (first-in s ok some)
+  first-held = ok .waiting .inside first (first-in s ok some)
 
-  pub created-valid : isText path ≡ true → length path ≤ 480 → length (registered (s .dirs) path) ≤ s .dirCap → length (s .rows) ≤ find path (s .rows)
-      → (fine : Bool) → Valid (created path fine s)
+  pub created-valid : isText path ≡ true → length path ≤ 480 → length (registered (s .dirs) path) ≤ s .chosen .«dir_rows»
+      → length (s .rows) ≤ find path (s .rows) → (fine : Bool) → Valid (created path fine s)
   unfolding created spent unqueued
   created-valid t short h new true =
-      binds-valid begun first path (s .counter) 0 true begun-valid first-held short
-      (bound-admitted begun first path (s .counter) 0 true t short (omega arith) (λ j ne. find-none path (s .rows) j new) (first-gone s ok some)) h
+      binds-valid begun first path (file (s .counter) 0 true) begun-valid first-held short
+      (bound-admitted begun first path (file (s .counter) 0 true) t short (omega arith) (λ j ne. find-none path (s .rows) j new) (first-gone s ok some)) h
   created-valid t short h new false =
-      queued-valid begun begun-valid first first-held (ok .idle first (first-in s ok some)) (first-gone s ok some)
+      queued-valid begun begun-valid first first-held (ok .waiting .idle first (first-in s ok some)) (first-gone s ok some)
 
   pub created-rows : (fine : Bool) → length (created path fine s .rows) ≡ length (s .rows)
-  unfolding created binds registers withRow queued spent unqueued
-  created-rows true = length-set (s .rows) first (bound path (s .counter) 0 true)
+  unfolding created binds registers withDirs withRow queued spent unqueued
+  created-rows true = length-set (s .rows) first (bound path (file (s .counter) 0 true))
   created-rows false = refl
 
 module _ (plan : List ℕ) (g : Geometry) (w : World) (f : Fit g w) where
@@ -137,7 +127,8 @@ module _ (plan : List ℕ) (g : Geometry) (w : World) (f : Fit g w) where
   reopen-fit i false h = resized-fit g w (dataTruncateM plan g i 0 (w .dev)) i 0 f (cut-kept i h) h
 
   module _ (path : List ℕ) (t : isText path ≡ true) (short : length path ≤ 480) (new : length (w .state .rows) ≤ find path (w .state .rows)) where
-    create-fit : 0 < length (w .state .queue) → w .state .counter < 2 ^ 63 → length (registered (w .state .dirs) path) ≤ w .state .dirCap → Fit g (createM plan g path w .left)
+    create-fit : 0 < length (w .state .queue) → w .state .counter < 2 ^ 63 → length (registered (w .state .dirs) path) ≤ w .state .chosen .«dir_rows»
+        → Fit g (createM plan g path w .left)
     unfolding createM
     create-fit some left h =
         let i = getD (w .state .queue) 0 0 in
@@ -156,7 +147,7 @@ module _ (plan : List ℕ) (g : Geometry) (w : World) (f : Fit g w) where
         go : (a : Bool) → eqb (admitsNew path (w .state)) 0 ≡ a → Fit g (cond a (createM plan g path w) (outcome (admitsNew path (w .state)) noHandle w) .left)
         go true e =
             let m = admits-means path (w .state) (eqb-true (admitsNew path (w .state)) 0 e) in
-            let r = room-made 1 path (w .state .dirCap) (w .state .dirs) (w .state .counter) (m .1) in
+            let r = room-made 1 path (w .state .chosen .«dir_rows») (w .state .dirs) (w .state .counter) (m .1) in
             create-fit (m .0) (omega (arith, r .1)) (r .0)
         go false e = f
 
@@ -185,5 +176,5 @@ module _ (plan : List ℕ) (g : Geometry) (w : World) (f : Fit g w) where
       go true false x y =
           let h : i < length (w .state .rows) = ltb-true i (length (w .state .rows)) x in
           let u : isBound (at (w .state .rows) i) ≡ true = holds-bound path (at (w .state .rows) i) (find-holds path (w .state .rows) h) in
-          release-fit plan g i w f h (λ m. false≢true (sym (f .valid .idle i m) ∙ u)) (omega (arith, ltb-false (2 ^ 63) (w .state .counter + 1) y))
+          release-fit plan g i w f h (λ m. false≢true (sym (f .valid .waiting .idle i m) ∙ u)) (omega (arith, ltb-false (2 ^ 63) (w .state .counter + 1) y))
       go false b x y = f

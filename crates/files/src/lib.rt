@@ -9,12 +9,12 @@ ghost use mathlib.Core.Bool.{true};
 ghost use Prim.Native.Nat.{_^_, _≤_, _<_};
 ghost use lib.ListN.{length};
 ghost use Rattle.device.specs.Device.{dev};
-ghost use Rattle.rows.specs.Rows.{at, isBound, rowsOf};
+ghost use Rattle.rows.specs.Rows.{file, at, isBound, rowsOf};
 ghost use Rattle.dirs.specs.Dirs.{registered};
 ghost use Rattle.dirs.specs.Rows.{dirsOf, FlatDirs};
-ghost use Rattle.table.specs.State.{bufs, view, flat, IsPool};
-ghost use Rattle.steps.specs.World.{lent, viewW, Ready};
-ghost use Rattle.handles.specs.Outcome.{outcome, flatO};
+ghost use Rattle.table.specs.State.{bufs, bufsBefore, bufsAfter, view, flat, IsPool};
+ghost use Rattle.steps.specs.World.{lent, viewW, Ready, before, after};
+ghost use Rattle.steps.specs.Outcome.{outcome, flatO};
 ghost use Rattle.files.specs.Files.{roomFor, binds, handle, openReadM, reopenM, createM, openWriteM, removeM};
 
 // The longest path of a file.
@@ -62,10 +62,13 @@ fn refused(out: u8, place: Place, pool: Pool) -> Writer
 
 // 8 where the missing ancestors of the path do not fit the directory rows, 9 where so many generations are not left, else 0.
 pub fn room(dirs: &[u8], pool: Pool, path: &[u8], need: u64) -> u8
-    requires { ⌜ FlatDirs (pool .«dir_rows») (pool .dirs) (now dirs) × (need ≤ 2) ⌝ }
-    ensures { λ r. ⌜ r ≡ roomFor need (now (path .entry)) (pool .«dir_rows») (dirsOf (now (dirs .entry)) (pool .dirs)) (pool .counter) ⌝ }
+    requires { ⌜ FlatDirs (pool .chosen .«dir_rows») (pool .dirs) (now dirs) × (need ≤ 2) ⌝ }
+    ensures { λ r. ⌜
+        r
+        ≡ roomFor need (now (path .entry)) (pool .chosen .«dir_rows»)
+        (dirsOf (now (dirs .entry)) (pool .dirs)) (pool .counter) ⌝ }
 {
-    let cap = pool.dir_rows;
+    let cap = pool.chosen.dir_rows;
     let m = pool.dirs;
     let counter = pool.counter;
     let missing = dirs::missing(dirs, m, path);
@@ -91,12 +94,14 @@ pub fn bind(
     dirty: bool,
 ) -> Pool
     requires { ⌜ IsPool (bufs pool (now nums) (now names) (now dirs)) × (i < pool .held) × (length (now path) ≤ 480) ⌝ }
-    requires { ⌜ length (registered (dirsOf (now dirs) (pool .dirs)) (now path)) ≤ pool .«dir_rows» ⌝ }
-    ensures { λ r. ⌜ bufs r (now (nums .exit)) (now (names .exit)) (now (dirs .exit)) ≡ flat (binds i (now (path .entry)) generation len dirty (view (bufs pool (now (nums .entry)) (now (names .entry)) (now (dirs .entry))))) ⌝ }
+    requires { ⌜ length (registered (dirsOf (now dirs) (pool .dirs)) (now path)) ≤ pool .chosen .«dir_rows» ⌝ }
+    ensures { λ r. ⌜
+        bufsAfter nums names dirs r
+        ≡ flat (binds i (now (path .entry)) (file generation len dirty) (view (bufsBefore nums names dirs pool))) ⌝ }
 {
-    let cap = pool.rows;
+    let cap = pool.chosen.rows;
     let n = pool.held;
-    let dir_cap = pool.dir_rows;
+    let dir_cap = pool.chosen.dir_rows;
     let m = pool.dirs;
     rows::bind_row(nums, names, cap, n, i, path, generation, len, dirty);
     let mut r = pool;
@@ -107,9 +112,9 @@ pub fn bind(
 // The handle of a file, for reading. The directories are lent only to be part of the pool.
 pub fn open_read(nums: &[u64], names: &[u8], dirs: &[u8], pool: Pool, path: &[u8]) -> Reader
     requires { ⌜ IsPool (bufs pool (now nums) (now names) (now dirs)) ⌝ }
-    ensures { λ r. ⌜ r ≡ openReadM (now (path .entry)) (view (bufs pool (now (nums .entry)) (now (names .entry)) (now (dirs .entry)))) ⌝ }
+    ensures { λ r. ⌜ r ≡ openReadM (now (path .entry)) (view (bufsBefore nums names dirs pool)) ⌝ }
 {
-    let cap = pool.rows;
+    let cap = pool.chosen.rows;
     let n = pool.held;
     let i = rows::find_row(nums, names, cap, n, path);
     if i < n {
@@ -142,9 +147,11 @@ fn reopen(
 ) -> Writer
     requires { ⌜ Ready geometry (lent (dev (now bytes) (now phys) place) (bufs pool (now nums) (now names) (now dirs))) ⌝ }
     requires { ⌜ (i < pool .held) × (isBound (at (rowsOf (now nums) (now names) (pool .held)) i) ≡ true) ⌝ }
-    ensures { λ r. ⌜ outcome (r .out) (handle (r .slot) (r .generation) (r .len)) (lent (dev (now (bytes .exit)) (now (phys .exit)) (r .place)) (bufs (r .pool) (now (nums .exit)) (now (names .entry)) (now (dirs .entry)))) ≡ flatO (reopenM (now (plan .entry)) geometry i keep (viewW (lent (dev (now (bytes .entry)) (now (phys .entry)) place) (bufs pool (now (nums .entry)) (now (names .entry)) (now (dirs .entry)))))) ⌝ }
+    ensures { λ r. ⌜
+        outcome (r .out) (handle (r .slot) (r .generation) (r .len)) (after bytes phys (r .place) nums names dirs (r .pool))
+        ≡ flatO (reopenM (now (plan .entry)) geometry i keep (viewW (before bytes phys place nums names dirs pool))) ⌝ }
 {
-    let cap = pool.rows;
+    let cap = pool.chosen.rows;
     let n = pool.held;
     let generation = rows::row_generation(nums, names, cap, n, i);
     if keep {
@@ -173,8 +180,8 @@ fn reopen(
     }
 }
 
-// Makes a file of the first free slot, under the next generation. Where the slot can't be cut to nothing, it goes to the queue's end and the
-// generation stays spent.
+// Makes a file of the first free slot, under the next generation. Where the slot can't be cut to nothing, it goes to the queue's end and
+// the generation stays spent.
 fn create(
     bytes: &mut [u8],
     phys: &mut [u64],
@@ -189,8 +196,10 @@ fn create(
 ) -> Writer
     requires { ⌜ Ready geometry (lent (dev (now bytes) (now phys) place) (bufs pool (now nums) (now names) (now dirs))) ⌝ }
     requires { ⌜ (0 < pool .free) × (pool .counter < 2 ^ 63) × (length (now path) ≤ 480) ⌝ }
-    requires { ⌜ length (registered (dirsOf (now dirs) (pool .dirs)) (now path)) ≤ pool .«dir_rows» ⌝ }
-    ensures { λ r. ⌜ outcome (r .out) (handle (r .slot) (r .generation) (r .len)) (lent (dev (now (bytes .exit)) (now (phys .exit)) (r .place)) (bufs (r .pool) (now (nums .exit)) (now (names .exit)) (now (dirs .exit)))) ≡ flatO (createM (now (plan .entry)) geometry (now (path .entry)) (viewW (lent (dev (now (bytes .entry)) (now (phys .entry)) place) (bufs pool (now (nums .entry)) (now (names .entry)) (now (dirs .entry)))))) ⌝ }
+    requires { ⌜ length (registered (dirsOf (now dirs) (pool .dirs)) (now path)) ≤ pool .chosen .«dir_rows» ⌝ }
+    ensures { λ r. ⌜
+        outcome (r .out) (handle (r .slot) (r .generation) (r .len)) (after bytes phys (r .place) nums names dirs (r .pool))
+        ≡ flatO (createM (now (plan .entry)) geometry (now (path .entry)) (viewW (before bytes phys place nums names dirs pool))) ⌝ }
 {
     let generation = pool.counter;
     let popped = table::pop_free(pool);
@@ -227,12 +236,15 @@ pub fn open_write(
     keep: bool,
 ) -> Writer
     requires { ⌜ Ready geometry (lent (dev (now bytes) (now phys) place) (bufs pool (now nums) (now names) (now dirs))) ⌝ }
-    ensures { λ r. ⌜ outcome (r .out) (handle (r .slot) (r .generation) (r .len)) (lent (dev (now (bytes .exit)) (now (phys .exit)) (r .place)) (bufs (r .pool) (now (nums .exit)) (now (names .exit)) (now (dirs .exit)))) ≡ flatO (openWriteM (now (plan .entry)) geometry (now (path .entry)) keep (viewW (lent (dev (now (bytes .entry)) (now (phys .entry)) place) (bufs pool (now (nums .entry)) (now (names .entry)) (now (dirs .entry)))))) ⌝ }
+    ensures { λ r. ⌜
+        outcome (r .out) (handle (r .slot) (r .generation) (r .len)) (after bytes phys (r .place) nums names dirs (r .pool))
+        ≡ flatO (openWriteM (now (plan .entry)) geometry (now (path .entry)) keep
+        (viewW (before bytes phys place nums names dirs pool))) ⌝ }
 {
     if MAX_PATH < path.len() {
         return refused(4, place, pool);
     }
-    let cap = pool.rows;
+    let cap = pool.chosen.rows;
     let n = pool.held;
     let i = rows::find_row(nums, names, cap, n, path);
     if i < n {
@@ -286,9 +298,11 @@ pub fn remove_file(
     path: &[u8],
 ) -> Done
     requires { ⌜ Ready geometry (lent (dev (now bytes) (now phys) place) (bufs pool (now nums) (now names) (now dirs))) ⌝ }
-    ensures { λ r. ⌜ outcome (r .out) tt (lent (dev (now (bytes .exit)) (now (phys .exit)) (r .place)) (bufs (r .pool) (now (nums .exit)) (now (names .exit)) (now (dirs .entry)))) ≡ flatO (removeM (now (plan .entry)) geometry (now (path .entry)) (viewW (lent (dev (now (bytes .entry)) (now (phys .entry)) place) (bufs pool (now (nums .entry)) (now (names .entry)) (now (dirs .entry)))))) ⌝ }
+    ensures { λ r. ⌜
+        outcome (r .out) tt (after bytes phys (r .place) nums names dirs (r .pool))
+        ≡ flatO (removeM (now (plan .entry)) geometry (now (path .entry)) (viewW (before bytes phys place nums names dirs pool))) ⌝ }
 {
-    let cap = pool.rows;
+    let cap = pool.chosen.rows;
     let n = pool.held;
     let i = rows::find_row(nums, names, cap, n, path);
     if n <= i {

@@ -19,14 +19,14 @@ use Rattle.dirs.specs.RowLaws.{length-dirs}
 use Rattle.dirs.specs.Laws.{length-registered-with}
 use Rattle.table.specs.declared.Pool.{Pool}
 use Rattle.table.specs.State.{Bufs, bufs, view, poolOf, queueOf, IsPool}
-use Rattle.table.specs.Changes.{dired}
+use Rattle.table.specs.Changes.{withDirs}
 use Rattle.table.specs.Laws.{pool-canon, pool-rows, together}
 use Rattle.steps.specs.World.{Lent, lent, viewW, flatW}
 use Rattle.steps.specs.Steps.{syncRowM}
-use Rattle.handles.specs.Outcome.{outcome, flatO, None}
+use Rattle.steps.specs.Outcome.{outcome, flatO, None}
 use Rattle.handles.specs.Laws.{stays}
 use Rattle.files.specs.Files.{isFile}
-use Rattle.files.proofs.Laws.{rowsIn, dirsIn}
+use Rattle.files.proofs.Laws.{rowsIn, dirsIn, withDirCount}
 use Rattle.folders.specs.Folders.{flatB, tooLong, createDirAllM, existsM, metadataM, isDue, syncOneM}
 
 -- ---- create_dir_all
@@ -47,29 +47,31 @@ module _ (path : List ℕ) (b : Bufs) (P : IsPool b) (k : ℕ) (e : k ≡ length
     wanted : length (registeredWith (dirsIn b) path) ≡ b .pool .dirs + m
     wanted = length-registered-with (dirsIn b) path ∙ ap₂ (λ (x y : ℕ). x + y) (length-dirs (b .dirs) (b .pool .dirs)) (sym q)
 
-    pub create-full : b .pool .«dir_rows» - b .pool .dirs < m → outcome 8 tt b ≡ flatB (createDirAllM path (view b))
+    pub create-full : b .pool .chosen .«dir_rows» - b .pool .dirs < m → outcome 8 tt b ≡ flatB (createDirAllM path (view b))
     unfolding createDirAllM view
     create-full h =
-        let z : ltb (b .pool .«dir_rows») (length (registeredWith (dirsIn b) path)) ≡ true = lt-ltb (b .pool .«dir_rows») (length (registeredWith (dirsIn b) path)) (omega (arith, wanted)) in
+        let n = length (registeredWith (dirsIn b) path) in
+        let z : ltb (b .pool .chosen .«dir_rows») n ≡ true = lt-ltb (b .pool .chosen .«dir_rows») n (omega (arith, wanted)) in
         rw (fits, z) (refused 8)
 
-    module _ (few : b .pool .dirs ≤ b .pool .«dir_rows») (h : m ≤ b .pool .«dir_rows» - b .pool .dirs) where
+    module _ (few : b .pool .dirs ≤ b .pool .chosen .«dir_rows») (h : m ≤ b .pool .chosen .«dir_rows» - b .pool .dirs) where
       -- there is room for what is missing
-      pub create-room : (length (registeredWith (dirsIn b) path) ≤ b .pool .«dir_rows») × (length (normal path) ≤ 480)
+      pub create-room : (length (registeredWith (dirsIn b) path) ≤ b .pool .chosen .«dir_rows») × (length (normal path) ≤ 480)
       create-room = (omega (arith, wanted), omega arith)
 
-      pub create-done : (d : List ℕ) (n : ℕ) → dirsOf d n ≡ registeredWith (dirsIn b) path → FlatDirs (b .pool .«dir_rows») n d
-          → outcome 0 tt (bufs (record { rows = b .pool .rows; «dir_rows» = b .pool .«dir_rows»; held = b .pool .held; dirs = n; counter = b .pool .counter; free = b .pool .free; queue = b .pool .queue }) (b .nums) (b .names) d)
-          ≡ flatB (createDirAllM path (view b))
-      unfolding createDirAllM flatB dired view poolOf
+      pub create-done : (d : List ℕ) (n : ℕ) → dirsOf d n ≡ registeredWith (dirsIn b) path → FlatDirs (b .pool .chosen .«dir_rows») n d
+          → outcome 0 tt (bufs (withDirCount n (b .pool)) (b .nums) (b .names) d) ≡ flatB (createDirAllM path (view b))
+      unfolding createDirAllM flatB withDirs view poolOf
       create-done d n t G =
-          let z : ltb (b .pool .«dir_rows») (length (registeredWith (dirsIn b) path)) ≡ false = le-ltb (b .pool .«dir_rows») (length (registeredWith (dirsIn b) path)) (create-room .0) in
+          let k = length (registeredWith (dirsIn b) path) in
+          let z : ltb (b .pool .chosen .«dir_rows») k ≡ false = le-ltb (b .pool .chosen .«dir_rows») k (create-room .0) in
           let o : length (registeredWith (dirsIn b) path) ≡ n = ap length (sym t) ∙ length-dirs d n in
           let r = length-rows (b .nums) (b .names) (b .pool .held) in
           let f : length (queueOf (b .pool)) ≡ b .pool .free = ap (λ (x : Pool). x .free) (pool-canon b P) in
           let c = ap (λ (x : Pool). x .queue) (pool-canon b P) in
           rw (fits, z)
-          (ap (outcome 0 tt) (together (dired (registeredWith (dirsIn b) path) (view b)) _ (b .nums) (b .names) d (rw (r, o, f, c)) refl (pool-rows b P) t G))
+          (ap (outcome 0 tt)
+          (together (withDirs (registeredWith (dirsIn b) path) (view b)) _ (b .nums) (b .names) d (rw (r, o, f, c)) refl (pool-rows b P) t G))
 
 -- ---- exists, metadata
 
@@ -121,7 +123,7 @@ module _ (path : List ℕ) (r : Row) where
     where
       dirty : (x : Row) → isDirty x ≡ true → isBound x ≡ true
       dirty (unbound g) d = d
-      dirty (bound p g n t) d = refl
+      dirty (bound p f) d = refl
 
       go : (d : Bool) → isDirty r ≡ d → cond d (isParent path (pathOf r)) false ≡ true → isBound r ≡ true
       go true d t = dirty r d

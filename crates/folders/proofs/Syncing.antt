@@ -14,7 +14,7 @@ use Rattle.rows.specs.Laws.{length-rows}
 use Rattle.table.specs.State.{view}
 use Rattle.steps.specs.World.{World, Lent, viewW, flatW, Ready}
 use Rattle.steps.specs.Laws.{world-is, ready-fit}
-use Rattle.handles.specs.Outcome.{Outcome, outcome, flatO, None}
+use Rattle.steps.specs.Outcome.{Outcome, outcome, flatO, None}
 use Rattle.handles.specs.Laws.{stays}
 use Rattle.folders.specs.Folders.{syncOneM, syncEachM, syncDirM}
 use Rattle.folders.specs.Laws.{sync-one-fit}

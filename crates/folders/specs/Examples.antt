@@ -7,10 +7,10 @@ use Rattle.lists.specs.Runs.{range}
 use Rattle.lists.specs.Same.{same}
 use Rattle.path.specs.Path.{grow, cut, split, idle, names, opening, components, samePath, init, isRoot, hasParent, isParent, slash, join, normal, fronts, ancestors}
 use Rattle.device.specs.Device.{dev, turn, after, writeM, headerWriteM}
-use Rattle.rows.specs.Rows.{bound, isDirty, pathOf, lenOf, holds, find}
+use Rattle.rows.specs.Rows.{file, bound, isDirty, pathOf, lenOf, holds, find}
 use Rattle.dirs.specs.Dirs.{hasPath, absent, joined}
 use Rattle.table.specs.State.{State}
-use Rattle.table.specs.Changes.{dired}
+use Rattle.table.specs.Changes.{withDirs}
 use Rattle.steps.specs.World.{World, world}
 use Rattle.steps.specs.Steps.{putM, syncRowM}
 use Rattle.folders.specs.Folders.{createDirAllM, existsM, metadataM, isDue, syncOneM, syncEachM, syncDirM}
@@ -19,9 +19,8 @@ use Rattle.folders.specs.Folders.{createDirAllM, existsM, metadataM, isD
 small : State
 small =
     record {
-      cap = 2;
-      dirCap = 3;
-      rows = bound (97 ∷ []) 1 7 false ∷ bound (98 ∷ []) 2 0 true ∷ [];
+      chosen = record { rows = 2; «dir_rows» = 3 };
+      rows = bound (97 ∷ []) (file 1 7 false) ∷ bound (98 ∷ []) (file 2 0 true) ∷ [];
       dirs = (97 ∷ []) ∷ (99 ∷ []) ∷ [];
       queue = [];
       counter = 3;
@@ -31,7 +30,7 @@ small =
 
 -- of `a/b/` makes `a/b`, as `a` is there
 only-missing : createDirAllM (97 ∷ 47 ∷ 98 ∷ 47 ∷ []) small .left .dirs ≡ (97 ∷ []) ∷ (99 ∷ []) ∷ (97 ∷ 47 ∷ 98 ∷ []) ∷ []
-unfolding small createDirAllM dired joined absent hasPath samePath same normal ancestors fronts join slash isRoot components opening names idle split cut grow
+unfolding small createDirAllM withDirs joined absent hasPath samePath same normal ancestors fronts join slash isRoot components opening names idle split cut grow
 only-missing = refl
 
 -- of `b/c` needs two rows
@@ -41,7 +40,7 @@ no-row = refl
 
 -- of the empty path makes an empty directory
 empty-made : createDirAllM [] small .left .dirs ≡ (97 ∷ []) ∷ (99 ∷ []) ∷ [] ∷ []
-unfolding small createDirAllM dired joined absent hasPath samePath same normal ancestors fronts join components opening names idle split cut grow
+unfolding small createDirAllM withDirs joined absent hasPath samePath same normal ancestors fronts join components opening names idle split cut grow
 empty-made = refl
 
 -- 480 bytes are held, 481 are not, and a spelling of 481 bytes is, where it is normal `a`
@@ -76,33 +75,33 @@ not-found = refl
 -- ---- sync_dir
 
 -- of the empty path: `a`, `.` and `..`
-name-due : isDue [] (bound (97 ∷ []) 1 0 true) ≡ true
+name-due : isDue [] (bound (97 ∷ []) (file 1 0 true)) ≡ true
 unfolding isDue isDirty pathOf isParent hasParent init isRoot same components opening names idle split cut grow
 name-due = refl
 
-dot-due : isDue [] (bound (46 ∷ []) 1 0 true) ≡ true
+dot-due : isDue [] (bound (46 ∷ []) (file 1 0 true)) ≡ true
 unfolding isDue isDirty pathOf isParent hasParent init isRoot same components opening names idle split cut grow
 dot-due = refl
 
-dots-due : isDue [] (bound (46 ∷ 46 ∷ []) 1 0 true) ≡ true
+dots-due : isDue [] (bound (46 ∷ 46 ∷ []) (file 1 0 true)) ≡ true
 unfolding isDue isDirty pathOf isParent hasParent init isRoot same components opening names idle split cut grow
 dots-due = refl
 
 -- the empty path and the root have no parent
-empty-not : isDue [] (bound [] 1 0 true) ≡ false
+empty-not : isDue [] (bound [] (file 1 0 true)) ≡ false
 unfolding isDue isDirty pathOf isParent hasParent components
 empty-not = refl
 
-root-not : isDue (47 ∷ []) (bound (47 ∷ []) 1 0 true) ≡ false
+root-not : isDue (47 ∷ []) (bound (47 ∷ []) (file 1 0 true)) ≡ false
 unfolding isDue isDirty pathOf isParent hasParent isRoot components names idle split cut grow
 root-not = refl
 
 -- `a/b/c` is no child of `a`, and a clean file needs no sync
-deeper-not : isDue (97 ∷ []) (bound (97 ∷ 47 ∷ 98 ∷ 47 ∷ 99 ∷ []) 1 0 true) ≡ false
+deeper-not : isDue (97 ∷ []) (bound (97 ∷ 47 ∷ 98 ∷ 47 ∷ 99 ∷ []) (file 1 0 true)) ≡ false
 unfolding isDue isDirty pathOf isParent hasParent init same components opening names idle split cut grow
 deeper-not = refl
 
-clean-not : isDue [] (bound (97 ∷ []) 1 0 false) ≡ false
+clean-not : isDue [] (bound (97 ∷ []) (file 1 0 false)) ≡ false
 unfolding isDue isDirty
 clean-not = refl
 
@@ -111,9 +110,8 @@ two : World
 two =
     world (dev [] [] (record { at = 0; last = 0 }))
     (record {
-      cap = 2;
-      dirCap = 0;
-      rows = bound (97 ∷ []) 1 0 true ∷ bound (98 ∷ []) 2 0 true ∷ [];
+      chosen = record { rows = 2; «dir_rows» = 0 };
+      rows = bound (97 ∷ []) (file 1 0 true) ∷ bound (98 ∷ []) (file 2 0 true) ∷ [];
       dirs = [];
       queue = [];
       counter = 3;

@@ -10,10 +10,10 @@ use Rattle.device.specs.declared.Geometry.{Geometry}
 use Rattle.rows.specs.Rows.{Row, at, pathOf, lenOf, isDirty, find}
 use Rattle.dirs.specs.Dirs.{hasPath, registeredWith}
 use Rattle.table.specs.State.{State, Bufs, flat}
-use Rattle.table.specs.Changes.{dired}
+use Rattle.table.specs.Changes.{withDirs}
 use Rattle.steps.specs.World.{World}
 use Rattle.steps.specs.Steps.{syncRowM}
-use Rattle.handles.specs.Outcome.{Outcome, outcome, None, came}
+use Rattle.steps.specs.Outcome.{Outcome, outcome, None, came}
 use Rattle.files.specs.Files.{isFile}
 use Rattle.folders.specs.declared.Meta.{Meta}
 
@@ -36,8 +36,8 @@ tooLong path = ltb 480 (length (normal path))
 unfoldable pub createDirAllM : List ℕ → State → Outcome None State
 createDirAllM path s =
     cond (tooLong path) (outcome 4 tt s)
-    (cond (ltb (s .dirCap) (length (registeredWith (s .dirs) path))) (outcome 8 tt s)
-    (outcome 0 tt (dired (registeredWith (s .dirs) path) s)))
+    (cond (ltb (s .chosen .«dir_rows») (length (registeredWith (s .dirs) path))) (outcome 8 tt s)
+    (outcome 0 tt (withDirs (registeredWith (s .dirs) path) s)))
 
 -- ---- exists, metadata
 

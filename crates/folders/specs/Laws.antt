@@ -14,13 +14,14 @@ use Rattle.rows.specs.Rows.{at, cleaned}
 use Rattle.dirs.specs.Dirs.{registeredWith}
 use Rattle.dirs.specs.Joined.{joined-short}
 use Rattle.dirs.specs.Laws.{path-short, registered-with-dirs}
+use Rattle.table.specs.Numbers.{isNumber}
 use Rattle.table.specs.State.{State, Valid}
-use Rattle.table.specs.Changes.{dired, dired-valid}
+use Rattle.table.specs.Changes.{withRow, withDirs, with-dirs-valid}
 use Rattle.steps.specs.World.{World, Fit}
-use Rattle.steps.specs.Steps.{fineM, withRow, putM, rowBlock, syncRowM}
+use Rattle.steps.specs.Steps.{fineM, putM, rowBlock, syncRowM}
 use Rattle.steps.specs.Laws.{sync-row-fit}
-use Rattle.steps.specs.Numbers.{either, Few, put-last}
-use Rattle.handles.specs.Outcome.{Outcome, outcome, None, Out}
+use Rattle.steps.specs.Numbers.{either, put-last}
+use Rattle.steps.specs.Outcome.{Outcome, outcome, None, Out}
 use Rattle.folders.specs.Folders.{tooLong, createDirAllM, existsM, metadataM, isDue, syncOneM, syncEachM, syncDirM}
 
 -- ---- create_dir_all
@@ -31,28 +32,30 @@ module _ (path : List ℕ) (s : State) where
 
   pub create-dir-all-valid : Valid s → Valid (createDirAllM path s .left)
   unfolding createDirAllM
-  create-dir-all-valid ok = go (tooLong path) (ltb (s .dirCap) (length dirsThen)) refl refl
+  create-dir-all-valid ok = go (tooLong path) (ltb (s .chosen .«dir_rows») (length dirsThen)) refl refl
     where
-      go : (a b : Bool) → tooLong path ≡ a → ltb (s .dirCap) (length dirsThen) ≡ b
-          → Valid (cond a (outcome {R = None} 4 tt s) (cond b (outcome 8 tt s) (outcome 0 tt (dired dirsThen s))) .left)
+      go : (a b : Bool) → tooLong path ≡ a → ltb (s .chosen .«dir_rows») (length dirsThen) ≡ b
+          → Valid (cond a (outcome {R = None} 4 tt s) (cond b (outcome 8 tt s) (outcome 0 tt (withDirs dirsThen s))) .left)
       go true b x y = ok
       go false true x y = ok
       go false false x y =
-          dired-valid s dirsThen ok (ltb-false (s .dirCap) (length dirsThen) y)
-          (joined-short (s .dirs) (normal path ∷ ancestors path) (ok .dirs-short) (path-short path (ltb-false 480 _ x)))
-          (registered-with-dirs (s .dirs) path (ok .directories))
+          with-dirs-valid s dirsThen ok (ltb-false (s .chosen .«dir_rows») (length dirsThen) y)
+          (record {
+            short = joined-short (s .dirs) (normal path ∷ ancestors path) (ok .directories .short) (path-short path (ltb-false 480 _ x));
+            dirs = registered-with-dirs (s .dirs) path (ok .directories .dirs);
+          })
 
-  pub create-dir-all-number : createDirAllM path s .out ≤ 13
+  pub create-dir-all-number : isNumber (createDirAllM path s .out)
   unfolding createDirAllM
   create-dir-all-number =
       either Out (tooLong path) (omega arith)
-      (either Out (ltb (s .dirCap) (length dirsThen)) (omega arith) (omega arith))
+      (either Out (ltb (s .chosen .«dir_rows») (length dirsThen)) (omega arith) (omega arith))
 
   -- ---- metadata
 
-  pub metadata-number : metadataM path s .out ≤ 13
+  pub metadata-number : isNumber (metadataM path s .out)
   unfolding metadataM
-  metadata-number = either Few (existsM path s) {x = 0} {y = 5} (omega arith) (omega arith)
+  metadata-number = either isNumber (existsM path s) {x = 0} {y = 5} (omega arith) (omega arith)
 
 -- ---- sync_dir
 
@@ -84,18 +87,18 @@ module _ (plan : List ℕ) (g : Geometry) where
     unfolding syncDirM
     sync-dir-fit w f = each-fit 0 (length (w .state .rows)) w f (omega arith)
 
-    one-number : (i : ℕ) (w : World) → syncOneM plan g path i w .out ≤ 13
+    one-number : (i : ℕ) (w : World) → isNumber (syncOneM plan g path i w .out)
     unfolding syncOneM syncRowM
     one-number i w =
         either Out (isDue path (at (w .state .rows) i)) (put-last plan g i (rowBlock (at (w .state .rows) i)) (w .dev)) (omega arith)
 
-    each-number : (is : List ℕ) (w : World) → syncEachM plan g path is w .out ≤ 13
+    each-number : (is : List ℕ) (w : World) → isNumber (syncEachM plan g path is w .out)
     unfolding syncEachM
     each-number [] w = omega arith
     each-number (i ∷ is) w =
         either Out (eqb (syncOneM plan g path i w .out) 0) (each-number is (syncOneM plan g path i w .left)) (one-number i w)
 
-    pub sync-dir-number : (w : World) → syncDirM plan g path w .out ≤ 13
+    pub sync-dir-number : (w : World) → isNumber (syncDirM plan g path w .out)
     unfolding syncDirM
     sync-dir-number w = omega (arith, each-number (range 0 (length (w .state .rows))) w)
 

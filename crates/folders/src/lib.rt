@@ -9,9 +9,9 @@ ghost use mathlib.Core.Path.{_≡_};
 ghost use Prim.Native.Nat.{_<_};
 ghost use Rattle.device.specs.Device.{dev};
 ghost use Rattle.rows.specs.Rows.{at, rowsOf, Flat};
-ghost use Rattle.table.specs.State.{bufs, view, IsPool};
-ghost use Rattle.steps.specs.World.{lent, viewW, Ready};
-ghost use Rattle.handles.specs.Outcome.{outcome, flatO};
+ghost use Rattle.table.specs.State.{bufs, bufsBefore, bufsAfter, view, IsPool};
+ghost use Rattle.steps.specs.World.{lent, viewW, Ready, before, after};
+ghost use Rattle.steps.specs.Outcome.{outcome, flatO};
 ghost use Rattle.folders.specs.Folders.{flatB, createDirAllM, existsM, metadataM, isDue, syncOneM, syncDirM};
 
 // The longest normal spelling of a directory.
@@ -33,12 +33,14 @@ pub struct Meta {
 // Makes the path a directory, and its ancestors. The spelling may be of any length. The slot rows are lent only to be part of the pool.
 pub fn create_dir_all(nums: &[u64], names: &[u8], dirs: &mut [u8], pool: Pool, path: &[u8]) -> Made
     requires { ⌜ IsPool (bufs pool (now nums) (now names) (now dirs)) ⌝ }
-    ensures { λ r. ⌜ outcome (r .out) tt (bufs (r .pool) (now (nums .entry)) (now (names .entry)) (now (dirs .exit))) ≡ flatB (createDirAllM (now (path .entry)) (view (bufs pool (now (nums .entry)) (now (names .entry)) (now (dirs .entry))))) ⌝ }
+    ensures { λ r. ⌜
+        outcome (r .out) tt (bufsAfter nums names dirs (r .pool))
+        ≡ flatB (createDirAllM (now (path .entry)) (view (bufsBefore nums names dirs pool))) ⌝ }
 {
     if MAX_PATH < path::normal_len(path) {
         return Made { out: 4, pool: pool };
     }
-    let cap = pool.dir_rows;
+    let cap = pool.chosen.dir_rows;
     let m = pool.dirs;
     let missing = dirs::missing_path(dirs, m, path);
     if cap - m < missing {
@@ -52,9 +54,9 @@ pub fn create_dir_all(nums: &[u64], names: &[u8], dirs: &mut [u8], pool: Pool, p
 // Whether the path is a file's or a directory's.
 pub fn exists(nums: &[u64], names: &[u8], dirs: &[u8], pool: Pool, path: &[u8]) -> bool
     requires { ⌜ IsPool (bufs pool (now nums) (now names) (now dirs)) ⌝ }
-    ensures { λ r. ⌜ r ≡ existsM (now (path .entry)) (view (bufs pool (now (nums .entry)) (now (names .entry)) (now (dirs .entry)))) ⌝ }
+    ensures { λ r. ⌜ r ≡ existsM (now (path .entry)) (view (bufsBefore nums names dirs pool)) ⌝ }
 {
-    let cap = pool.rows;
+    let cap = pool.chosen.rows;
     let n = pool.held;
     let m = pool.dirs;
     let i = rows::find_row(nums, names, cap, n, path);
@@ -67,9 +69,9 @@ pub fn exists(nums: &[u64], names: &[u8], dirs: &[u8], pool: Pool, path: &[u8]) 
 // The length of a file, or that the path is a directory's. A file comes before a directory of the same path.
 pub fn metadata(nums: &[u64], names: &[u8], dirs: &[u8], pool: Pool, path: &[u8]) -> Meta
     requires { ⌜ IsPool (bufs pool (now nums) (now names) (now dirs)) ⌝ }
-    ensures { λ r. ⌜ r ≡ metadataM (now (path .entry)) (view (bufs pool (now (nums .entry)) (now (names .entry)) (now (dirs .entry)))) ⌝ }
+    ensures { λ r. ⌜ r ≡ metadataM (now (path .entry)) (view (bufsBefore nums names dirs pool)) ⌝ }
 {
-    let cap = pool.rows;
+    let cap = pool.chosen.rows;
     let n = pool.held;
     let m = pool.dirs;
     let i = rows::find_row(nums, names, cap, n, path);
@@ -125,9 +127,11 @@ fn sync_one(
 ) -> Ended
     requires { ⌜ Ready geometry (lent (dev (now bytes) (now phys) place) (bufs pool (now nums) (now names) (now dirs))) ⌝ }
     requires { ⌜ i < pool .held ⌝ }
-    ensures { λ r. ⌜ outcome (r .out) tt (lent (dev (now (bytes .exit)) (now (phys .exit)) (r .place)) (bufs pool (now (nums .exit)) (now (names .entry)) (now (dirs .entry)))) ≡ flatO (syncOneM (now (plan .entry)) geometry (now (path .entry)) i (viewW (lent (dev (now (bytes .entry)) (now (phys .entry)) place) (bufs pool (now (nums .entry)) (now (names .entry)) (now (dirs .entry)))))) ⌝ }
+    ensures { λ r. ⌜
+        outcome (r .out) tt (after bytes phys (r .place) nums names dirs pool)
+        ≡ flatO (syncOneM (now (plan .entry)) geometry (now (path .entry)) i (viewW (before bytes phys place nums names dirs pool))) ⌝ }
 {
-    let cap = pool.rows;
+    let cap = pool.chosen.rows;
     let n = pool.held;
     if !is_due(nums, names, cap, n, i, path) {
         return Ended {
@@ -168,7 +172,9 @@ pub fn sync_dir(
     path: &[u8],
 ) -> Ended
     requires { ⌜ Ready geometry (lent (dev (now bytes) (now phys) place) (bufs pool (now nums) (now names) (now dirs))) ⌝ }
-    ensures { λ r. ⌜ outcome (r .out) tt (lent (dev (now (bytes .exit)) (now (phys .exit)) (r .place)) (bufs pool (now (nums .exit)) (now (names .entry)) (now (dirs .entry)))) ≡ flatO (syncDirM (now (plan .entry)) geometry (now (path .entry)) (viewW (lent (dev (now (bytes .entry)) (now (phys .entry)) place) (bufs pool (now (nums .entry)) (now (names .entry)) (now (dirs .entry)))))) ⌝ }
+    ensures { λ r. ⌜
+        outcome (r .out) tt (after bytes phys (r .place) nums names dirs pool)
+        ≡ flatO (syncDirM (now (plan .entry)) geometry (now (path .entry)) (viewW (before bytes phys place nums names dirs pool))) ⌝ }
 {
     let n = pool.held;
     let mut at = place;

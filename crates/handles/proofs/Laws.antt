@@ -15,11 +15,11 @@ use Rattle.device.specs.Device as Device
 use Rattle.rows.specs.Rows.{Row, at, isBound, genOf, lenOf, isDirty, resized, rowsOf, Flat}
 use Rattle.rows.specs.Laws.{length-rows}
 use Rattle.table.specs.State.{Bufs, bufs, view, flat, IsPool}
+use Rattle.table.specs.Changes.{withRow, row-flat}
 use Rattle.steps.specs.World.{World, Lent, lent, viewW, flatW, Ready}
-use Rattle.steps.specs.Steps.{fineM, withRow, syncRowM}
-use Rattle.steps.specs.Laws.{row-flat}
+use Rattle.steps.specs.Steps.{fineM, syncRowM}
 use Rattle.handles.specs.declared.Len.{Len}
-use Rattle.handles.specs.Outcome.{Outcome, outcome, flatO, None, came}
+use Rattle.steps.specs.Outcome.{Outcome, outcome, flatO, None, came}
 use Rattle.handles.specs.Handles.{isLive, onHandle, fileLenM, filling, readPart, resizedM, writeAtM, setLenM, syncM}
 use Rattle.handles.specs.Laws.{live-means, stays}
 
@@ -150,7 +150,7 @@ module _ (g : Geometry) (l : Lent) (R : Ready g l) (i n : ℕ) (e d : Dev) (q : 
 
   -- it was, and the handle is live still
   pub resize-done : e .place .last ≡ 0 → (live : Bool) → live ≡ true → (x : ℕ) → x ≡ cond live 0 6 → (l₁ : List ℕ)
-      → rowsOf l₁ (b .names) (b .pool .held) ≡ cond live (set (rowsIn b) i row) (rowsIn b) → Flat (b .pool .rows) (b .pool .held) l₁ (b .names)
+      → rowsOf l₁ (b .names) (b .pool .held) ≡ cond live (set (rowsIn b) i row) (rowsIn b) → Flat (b .pool .chosen .rows) (b .pool .held) l₁ (b .names)
       → outcome x tt (lent e (bufs (b .pool) l₁ (b .names) (b .dirs))) ≡ flatO (came (resizedM d i n (view b)))
   unfolding resizedM flatO flatW view
   resize-done z live t x u l₁ r F =

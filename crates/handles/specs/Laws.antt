@@ -12,10 +12,11 @@ use Rattle.device.specs.Device.{Dev, dev, seen, flushM, readM, dataReadM, dataW
 use Rattle.device.specs.Laws.{flush, truncate, store, load}
 use Rattle.rows.specs.Rows.{Row, at, isBound, genOf, lenOf, isDirty, resized}
 use Rattle.table.specs.State.{State, Valid, IsPool}
+use Rattle.table.specs.Changes.{withRow, with-row-valid, resized-admitted}
 use Rattle.steps.specs.World.{World, world, Lent, viewW, flatW, Fit}
-use Rattle.steps.specs.Steps.{fineM, withRow, syncRowM}
-use Rattle.steps.specs.Laws.{Kept, call-kept, with-row-valid, resized-admitted, sync-row-fit, lent-stays}
-use Rattle.handles.specs.Outcome.{Outcome, outcome, flatO, None, came}
+use Rattle.steps.specs.Steps.{fineM, syncRowM}
+use Rattle.steps.specs.Laws.{Kept, call-kept, sync-row-fit, lent-stays}
+use Rattle.steps.specs.Outcome.{Outcome, outcome, flatO, None, came}
 use Rattle.handles.specs.Handles.{isLive, onHandle, Filling, filling, readPart, readAtM, resizedM, writeAtM, setLenM, syncM}
 
 -- A refusal, and any call that changes nothing: the buffers stay.

@@ -1,3 +1,2 @@
-pub mod Outcome
 pub mod Handles
 pub mod Laws

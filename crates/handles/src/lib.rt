@@ -1,19 +1,18 @@
 // The calls on a handle: `file_len`, `read_at`, `write_at`, `set_len` and `sync` of pool.rs. A handle is a slot and a generation; where it
-// is stale, or the slot is out of range, each refuses with 6 and changes nothing. Else the number is that of the device call: 0, 10 where it
-// failed, 11 where a write stored too little. The caller has seen that the buffers are a pool on its device.
+// is stale, or the slot is out of range, each refuses with 6 and changes nothing. Else the number is that of the device call: 0, 10 where
+// it failed, 11 where a write stored too little. The caller has seen that the buffers are a pool on its device.
 use device::Geometry;
 use device::Place;
 use table::Pool;
 ghost use mathlib.Core.Path.{_≡_};
 ghost use mathlib.Core.Bool.{true, cond};
 ghost use Prim.Native.Nat.{_-_, _<_, min, max};
-ghost use lib.ListN.{set};
 ghost use Rattle.device.specs.Device.{dev};
-ghost use Rattle.rows.specs.Rows.{at, resized, rowsOf, Flat};
-ghost use Rattle.table.specs.State.{bufs, view, IsPool};
-ghost use Rattle.steps.specs.World.{lent, viewW, Ready};
-ghost use Rattle.handles.specs.Outcome.{outcome, flatO};
-ghost use Rattle.handles.specs.Handles.{isLive, fileLenM, filling, readAtM, writeAtM, setLenM, syncM};
+ghost use Rattle.rows.specs.Rows.{rowsOf, Flat};
+ghost use Rattle.table.specs.State.{bufs, bufsBefore, view, IsPool};
+ghost use Rattle.steps.specs.World.{lent, viewW, Ready, before, after};
+ghost use Rattle.steps.specs.Outcome.{outcome, flatO};
+ghost use Rattle.handles.specs.Handles.{isLive, fileLenM, filling, settled, readAtM, writeAtM, setLenM, syncM};
 
 // The number of a call, and a file's length.
 pub struct Len {
@@ -58,9 +57,9 @@ pub fn file_len(
     generation: u64,
 ) -> Len
     requires { ⌜ IsPool (bufs pool (now nums) (now names) (now dirs)) ⌝ }
-    ensures { λ r. ⌜ r ≡ fileLenM slot generation (view (bufs pool (now (nums .entry)) (now (names .entry)) (now (dirs .entry)))) ⌝ }
+    ensures { λ r. ⌜ r ≡ fileLenM slot generation (view (bufsBefore nums names dirs pool)) ⌝ }
 {
-    let cap = pool.rows;
+    let cap = pool.chosen.rows;
     let n = pool.held;
     if live(nums, names, cap, n, slot, generation) {
         return Len {
@@ -98,9 +97,12 @@ pub fn read_at(
     buf: &mut [u8],
 ) -> Filled
     requires { ⌜ Ready geometry (lent (dev (now bytes) (now phys) place) (bufs pool (now nums) (now names) (now dirs))) ⌝ }
-    ensures { λ r. ⌜ outcome (r .out) (filling (r .count) (now (buf .exit))) (lent (dev (now (bytes .entry)) (now (phys .entry)) (r .place)) (bufs pool (now (nums .entry)) (now (names .entry)) (now (dirs .entry)))) ≡ flatO (readAtM (now (plan .entry)) geometry slot generation at (now (buf .entry)) (viewW (lent (dev (now (bytes .entry)) (now (phys .entry)) place) (bufs pool (now (nums .entry)) (now (names .entry)) (now (dirs .entry)))))) ⌝ }
+    ensures { λ r. ⌜
+        outcome (r .out) (filling (r .count) (now (buf .exit))) (after bytes phys (r .place) nums names dirs pool)
+        ≡ flatO (readAtM (now (plan .entry)) geometry slot generation at (now (buf .entry))
+        (viewW (before bytes phys place nums names dirs pool))) ⌝ }
 {
-    let cap = pool.rows;
+    let cap = pool.chosen.rows;
     let n = pool.held;
     if !live(nums, names, cap, n, slot, generation) {
         return Filled {
@@ -149,7 +151,9 @@ fn resize(
 ) -> u8
     requires { ⌜ Flat cap n (now nums) (now names) ⌝ }
     ensures out { λ r. ⌜ r ≡ cond (isLive slot generation (rowsOf (now (nums .entry)) (now (names .entry)) n)) 0 6 ⌝ }
-    ensures rows { λ _. ⌜ rowsOf (now (nums .exit)) (now (names .entry)) n ≡ cond (isLive slot generation (rowsOf (now (nums .entry)) (now (names .entry)) n)) (set (rowsOf (now (nums .entry)) (now (names .entry)) n) slot (resized len true (at (rowsOf (now (nums .entry)) (now (names .entry)) n) slot))) (rowsOf (now (nums .entry)) (now (names .entry)) n) ⌝ }
+    ensures rows { λ _. ⌜
+        rowsOf (now (nums .exit)) (now (names .entry)) n
+        ≡ settled slot generation len (rowsOf (now (nums .entry)) (now (names .entry)) n) ⌝ }
     ensures flat { λ _. ⌜ Flat cap n (now (nums .exit)) (now (names .entry)) ⌝ }
 {
     if live(nums, names, cap, n, slot, generation) {
@@ -182,9 +186,12 @@ pub fn write_at(
     src: &[u8],
 ) -> Ended
     requires { ⌜ Ready geometry (lent (dev (now bytes) (now phys) place) (bufs pool (now nums) (now names) (now dirs))) ⌝ }
-    ensures { λ r. ⌜ outcome (r .out) tt (lent (dev (now (bytes .exit)) (now (phys .exit)) (r .place)) (bufs pool (now (nums .exit)) (now (names .entry)) (now (dirs .entry)))) ≡ flatO (writeAtM (now (plan .entry)) geometry slot generation at (now (src .entry)) (viewW (lent (dev (now (bytes .entry)) (now (phys .entry)) place) (bufs pool (now (nums .entry)) (now (names .entry)) (now (dirs .entry)))))) ⌝ }
+    ensures { λ r. ⌜
+        outcome (r .out) tt (after bytes phys (r .place) nums names dirs pool)
+        ≡ flatO (writeAtM (now (plan .entry)) geometry slot generation at (now (src .entry))
+        (viewW (before bytes phys place nums names dirs pool))) ⌝ }
 {
-    let cap = pool.rows;
+    let cap = pool.chosen.rows;
     let n = pool.held;
     if !live(nums, names, cap, n, slot, generation) {
         return Ended {
@@ -225,9 +232,11 @@ pub fn set_len(
     len: u64,
 ) -> Ended
     requires { ⌜ Ready geometry (lent (dev (now bytes) (now phys) place) (bufs pool (now nums) (now names) (now dirs))) ⌝ }
-    ensures { λ r. ⌜ outcome (r .out) tt (lent (dev (now (bytes .exit)) (now (phys .exit)) (r .place)) (bufs pool (now (nums .exit)) (now (names .entry)) (now (dirs .entry)))) ≡ flatO (setLenM (now (plan .entry)) geometry slot generation len (viewW (lent (dev (now (bytes .entry)) (now (phys .entry)) place) (bufs pool (now (nums .entry)) (now (names .entry)) (now (dirs .entry)))))) ⌝ }
+    ensures { λ r. ⌜
+        outcome (r .out) tt (after bytes phys (r .place) nums names dirs pool)
+        ≡ flatO (setLenM (now (plan .entry)) geometry slot generation len (viewW (before bytes phys place nums names dirs pool))) ⌝ }
 {
-    let cap = pool.rows;
+    let cap = pool.chosen.rows;
     let n = pool.held;
     if !live(nums, names, cap, n, slot, generation) {
         return Ended {
@@ -265,9 +274,11 @@ pub fn sync(
     generation: u64,
 ) -> Ended
     requires { ⌜ Ready geometry (lent (dev (now bytes) (now phys) place) (bufs pool (now nums) (now names) (now dirs))) ⌝ }
-    ensures { λ r. ⌜ outcome (r .out) tt (lent (dev (now (bytes .exit)) (now (phys .exit)) (r .place)) (bufs pool (now (nums .exit)) (now (names .entry)) (now (dirs .entry)))) ≡ flatO (syncM (now (plan .entry)) geometry slot generation (viewW (lent (dev (now (bytes .entry)) (now (phys .entry)) place) (bufs pool (now (nums .entry)) (now (names .entry)) (now (dirs .entry)))))) ⌝ }
+    ensures { λ r. ⌜
+        outcome (r .out) tt (after bytes phys (r .place) nums names dirs pool)
+        ≡ flatO (syncM (now (plan .entry)) geometry slot generation (viewW (before bytes phys place nums names dirs pool))) ⌝ }
 {
-    let cap = pool.rows;
+    let cap = pool.chosen.rows;
     let n = pool.held;
     if !live(nums, names, cap, n, slot, generation) {
         return Ended {

@@ -85,7 +85,14 @@ parentCall path out =
 
 -- The record of these counts, with an empty queue.
 abbrev pub countedPool : ℕ → ℕ → ℕ → ℕ → ℕ → Pool
-countedPool rows dirRows held dirsHeld counter = record { rows = rows; «dir_rows» = dirRows; held = held; dirs = dirsHeld; counter = counter; free = 0; queue = replicate 64 0 }
+countedPool rows dirRows held dirsHeld counter = record {
+  chosen = record { rows = rows; «dir_rows» = dirRows };
+  held = held;
+  dirs = dirsHeld;
+  counter = counter;
+  free = 0;
+  queue = replicate 64 0;
+}
 
 -- record_check: 1 for a pool, 0 for none.
 unfoldable pub recordCall : List ℕ → List ℕ → List ℕ → ℕ → ℕ → ℕ → ℕ → ℕ → ℕ

@@ -1,8 +1,9 @@
-// The calls that are exported to the oracle harness: check, header, text, paths and scripts as plain functions on numbers and byte slices. Each may
-// be called with anything. A refusal is 01's number, in the order 3, 4, 5, 13, and leaves `out` as it was; 13 says that `out` is too small.
-// Where an answer has a value, it is number * 2^32 + value.
+// The calls that are exported to the oracle harness: check, header, text, paths and scripts as plain functions on numbers and byte slices.
+// Each may be called with anything. A refusal is 01's number, in the order 3, 4, 5, 13, and leaves `out` as it was; 13 says that `out` is
+// too small. Where an answer has a value, it is number * 2^32 + value.
 use header::Decoded;
 use header::Header;
+use table::Chosen;
 use table::Pool;
 ghost use mathlib.Core.Path.{_≡_};
 ghost use Prim.Native.Nat.{_≤_};
@@ -13,7 +14,8 @@ ghost use Rattle.path.specs.Path.{normal};
 ghost use Rattle.table.specs.State.{bufs, view, IsPool};
 ghost use Rattle.writer.specs.Writer.{shown, poured};
 ghost use Rattle.script.specs.Script.{scriptM};
-ghost use Rattle.harness.specs.Calls.{outcome, refusal, numbersOf, encodeCall, decodeCall, textCall, sameCall, spelled, normalCall, parentCall, countedPool, recordCall, hits, lookupsCall};
+ghost use Rattle.harness.specs.Calls.{outcome, refusal, numbersOf, encodeCall, decodeCall, textCall, sameCall, spelled};
+ghost use Rattle.harness.specs.Calls.{normalCall, parentCall, countedPool, recordCall, hits, lookupsCall};
 
 // The state of the 32-bit FNV-1a behind these bytes, from the state `start`.
 #[no_mangle]
@@ -157,8 +159,8 @@ fn refusal(number: u8) -> u64
     (number as u64) * 0x1_0000_0000
 }
 
-// Runs a script over a small pool of its own, and writes what it puts out to out, as far as that reaches. Gives the length of the whole output, 0 if
-// the setup isn't whole.
+// Runs a script over a small pool of its own, and writes what it puts out to out, as far as that reaches. Gives the length of the whole
+// output, 0 if the setup isn't whole.
 #[no_mangle]
 pub extern "C" fn pool_script(script: &[u8], out: &mut [u8]) -> usize
     ensures { λ r. ⌜ shown (now (out .exit)) r ≡ poured (scriptM (now (script .entry))) (now (out .entry)) ⌝ }
@@ -166,8 +168,8 @@ pub extern "C" fn pool_script(script: &[u8], out: &mut [u8]) -> usize
     script::pool_script(script, out)
 }
 
-// Whether rows, and a record of these counts with an empty queue, are a pool: 1 or 0. Every public call begins with this test; it is exported
-// so that its time can be measured alone.
+// Whether rows, and a record of these counts with an empty queue, are a pool: 1 or 0. Every public call begins with this test; it is
+// exported so that its time can be measured alone.
 #[no_mangle]
 pub extern "C" fn record_check(
     nums: &[u64],
@@ -179,7 +181,8 @@ pub extern "C" fn record_check(
     dirs_held: usize,
     counter: u64,
 ) -> u8
-    ensures { λ r. ⌜ r ≡ recordCall (now (nums .entry)) (now (names .entry)) (now (dirs .entry)) rows «dir_rows» held «dirs_held» counter ⌝ }
+    ensures { λ r. ⌜
+        r ≡ recordCall (now (nums .entry)) (now (names .entry)) (now (dirs .entry)) rows «dir_rows» held «dirs_held» counter ⌝ }
 {
     let pool = counted(rows, dir_rows, held, dirs_held, counter);
     if admit::pool_ok(nums, names, dirs, pool) {
@@ -188,8 +191,8 @@ pub extern "C" fn record_check(
     0
 }
 
-// The same test once, and where it is a pool the path is looked for so many times: how many times it was found. Exported so that a search can
-// be measured without the test.
+// The same test once, and where it is a pool the path is looked for so many times: how many times it was found. Exported so that a search
+// can be measured without the test.
 #[no_mangle]
 pub extern "C" fn record_lookups(
     nums: &[u64],
@@ -203,7 +206,9 @@ pub extern "C" fn record_lookups(
     path: &[u8],
     times: u64,
 ) -> u64
-    ensures { λ r. ⌜ r ≡ lookupsCall (now (nums .entry)) (now (names .entry)) (now (dirs .entry)) rows «dir_rows» held «dirs_held» counter (now (path .entry)) times ⌝ }
+    ensures { λ r. ⌜
+        r ≡ lookupsCall (now (nums .entry)) (now (names .entry)) (now (dirs .entry)) rows «dir_rows» held «dirs_held» counter
+        (now (path .entry)) times ⌝ }
 {
     let pool = counted(rows, dir_rows, held, dirs_held, counter);
     if admit::pool_ok(nums, names, dirs, pool) {
@@ -215,7 +220,8 @@ pub extern "C" fn record_lookups(
 // How many of so many searches of a path find it.
 fn lookups(nums: &[u64], names: &[u8], dirs: &[u8], pool: Pool, path: &[u8], times: u64) -> u64
     requires { ⌜ IsPool (bufs pool (now nums) (now names) (now dirs)) ⌝ }
-    ensures { λ r. ⌜ r ≡ hits (now (path .entry)) (view (bufs pool (now (nums .entry)) (now (names .entry)) (now (dirs .entry)))) times ⌝ }
+    ensures { λ r. ⌜
+        r ≡ hits (now (path .entry)) (view (bufs pool (now (nums .entry)) (now (names .entry)) (now (dirs .entry)))) times ⌝ }
 {
     let mut i = 0u64;
     let mut found = 0u64;
@@ -235,8 +241,7 @@ fn counted(rows: usize, dir_rows: usize, held: usize, dirs_held: usize, counter:
     ensures { λ r. ⌜ r ≡ countedPool rows «dir_rows» held «dirs_held» counter ⌝ }
 {
     Pool {
-        rows,
-        dir_rows,
+        chosen: Chosen { rows, dir_rows },
         held,
         dirs: dirs_held,
         counter,

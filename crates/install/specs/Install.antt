@@ -1,12 +1,16 @@
--- What a mount makes of the rows that it has staged, in the words of survey's Staged: 01, "Mount, adopt". A new slot's row is bound where its header is a claim, and zero where not.
+-- What a mount makes of the rows that it has staged, in the words of survey's Staged: 01, "Mount, adopt". A new slot's row is bound where its
+-- header is a claim, and zero where not.
 use Prim.Native.Nat.{ℕ, _+_, _^_, _≤_}
 use mathlib.Core.Path.{_≡_}
 use mathlib.Core.Bool.{true, false, cond}
 use mathlib.Core.List.{List, [], _∷_}
 use lib.Dec.{leb, ltb}
-use lib.ListN.{length, take}
-use Rattle.rows.specs.Rows.{rowsOf, flatNums, flatNames}
-use Rattle.dirs.specs.Rows.{flatDirs}
+use lib.ListN.{length, take, drop}
+use denote.Ref.{now}
+use Rattle.lists.specs.Lends.{Run}
+use Rattle.rows.specs.Rows.{Row, rowsOf, flatNums, flatNames}
+use Rattle.dirs.specs.Rows.{dirsOf, flatDirs}
+use Rattle.survey.specs.Staged.{claimed}
 use Rattle.table.specs.declared.Pool.{Pool}
 use Rattle.table.specs.Queue.{pushed}
 use Rattle.install.specs.declared.Registered.{Registered}
@@ -32,6 +36,21 @@ pub record Three : Type 0 where
 abbrev pub three : List ℕ → List ℕ → List ℕ → Three
 three l n b = record { nums = l; names = n; dirs = b }
 
+-- The row buffers that a function was lent, as they were, and as they are left.
+abbrev pub threeBefore : Run → Run → Run → Three
+threeBefore nums names dirs = three (now (nums .entry)) (now (names .entry)) (now (dirs .entry))
+
+abbrev pub threeAfter : Run → Run → Run → Three
+threeAfter nums names dirs = three (now (nums .exit)) (now (names .exit)) (now (dirs .exit))
+
+-- The m slot rows that a function was lent, as they were.
+abbrev pub rowsBefore : Run → Run → ℕ → List Row
+rowsBefore nums names m = rowsOf (now (nums .entry)) (now (names .entry)) m
+
+-- The d directories that it was lent, and with the ancestors of the rows from n to m - 1.
+abbrev pub claimedBefore : Run → Run → Run → ℕ → ℕ → ℕ → List (List ℕ)
+claimedBefore nums names dirs n m d = claimed (drop n (rowsBefore nums names m)) (dirsOf (now (dirs .entry)) d)
+
 -- Taken: the d directories ds lie in their buffer, and the slot rows are as staged.
 pub record Taken (cap : ℕ) (ds : List (List ℕ)) (d : ℕ) (a b : Three) : Type 0 where
   pub count : d ≡ length ds
@@ -50,4 +69,4 @@ pushedAll (i ∷ is) q = pushedAll is (pushed i q)
 
 -- The record counts m slots and d directories, under this counter.
 abbrev pub holding : ℕ → ℕ → ℕ → Pool → Pool
-holding m d c q = record { rows = q .rows; «dir_rows» = q .«dir_rows»; held = m; dirs = d; counter = c; free = q .free; queue = q .queue }
+holding m d c q = record { chosen = q .chosen; held = m; dirs = d; counter = c; free = q .free; queue = q .queue }

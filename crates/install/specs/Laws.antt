@@ -9,8 +9,7 @@ use lib.Dec.{leb}
 use lib.ListN.{length, take, drop, set, replicate, length-append, length-replicate, length-set, length-drop, take-append-drop, replicate-append-replicate}
 use lib.Seq.{sets, sets-eq, take-all, take-take, take-at, drop-at, drop-append-add, length-take-le}
 use borrow.Author.Tests.{leb-true, leb-false, le-leb, lt-leb}
-use Rattle.lists.specs.Blocks.{pad, cat, pad-fits, length-cat}
-use Rattle.rows.specs.Zeros.{cat-append}
+use Rattle.lists.specs.Blocks.{pad, cat, pad-fits, cat-append, length-cat}
 use Rattle.path.specs.Path.{ancestors}
 use Rattle.path.specs.Theorems.{normal-short}
 use Rattle.rows.specs.Rows.{Row, none, pathOf}
@@ -94,7 +93,7 @@ said-no cap d ds r e h = go (leb (length ds) cap) refl e
 
 -- The pool with these slots at the queue's end, in their order.
 abbrev pub queuedAll : List ℕ → State → State
-queuedAll is s = record { cap = s .cap; dirCap = s .dirCap; rows = s .rows; dirs = s .dirs; queue = s .queue ++ is; counter = s .counter }
+queuedAll is s = record { chosen = s .chosen; rows = s .rows; dirs = s .dirs; queue = s .queue ++ is; counter = s .counter }
 
 pub push-all : (is : List ℕ) (s : State) (q : Pool) → q ≡ poolOf s → length (s .queue) + length is ≤ 64 → pushedAll is q ≡ poolOf (queuedAll is s)
 unfolding pushedAll queued

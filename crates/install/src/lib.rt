@@ -1,7 +1,7 @@
 // What `install` of pool.rs does to the rows and the record once the headers are read. The new slots' rows are staged behind those held,
-// bound where the header claims a path, and the losers are known; here the claims' ancestors are registered, the spare slots are queued, the
-// losers are unbound, and the record counts the new slots. Two refusals are found here, 8 (more directories to hold than directory rows) and
-// 9 (no generation left for each loser): then rows and directories are put back.
+// bound where the header claims a path, and the losers are known; here the claims' ancestors are registered, the spare slots are queued,
+// the losers are unbound, and the record counts the new slots. Two refusals are found here, 8 (more directories to hold than directory
+// rows) and 9 (no generation left for each loser): then rows and directories are put back.
 use table::Pool;
 ghost use mathlib.Core.Path.{_≡_};
 ghost use mathlib.Core.Bool.{cond};
@@ -12,8 +12,9 @@ ghost use Rattle.rows.specs.Rows.{at, pathOf, rowsOf, Flat, flatNums, flatNames
 ghost use Rattle.dirs.specs.Dirs.{registered};
 ghost use Rattle.dirs.specs.Rows.{dirsOf, flatDirs, FlatDirs};
 ghost use Rattle.table.specs.Queue.{pushed};
-ghost use Rattle.survey.specs.Staged.{claimed, spares, vacated};
-ghost use Rattle.install.specs.Install.{answered, kept, refusal, three, Taken, unstaged, pushedAll, holding};
+ghost use Rattle.survey.specs.Staged.{spares, vacated};
+ghost use Rattle.install.specs.Install.{answered, kept, refusal, Taken, unstaged, pushedAll, holding};
+ghost use Rattle.install.specs.Install.{threeBefore, threeAfter, rowsBefore, claimedBefore};
 
 // Whether there was room for all directories, and how many there are now.
 pub struct Registered {
@@ -65,8 +66,11 @@ fn register_row(
     i: usize,
 ) -> Registered
     requires { ⌜ Flat cap m (now nums) (now names) × FlatDirs «dir_cap» d (now dirs) × (i < m) ⌝ }
-    ensures told { λ r. ⌜ r ≡ answered «dir_cap» d (registered (dirsOf (now (dirs .entry)) d) (pathOf (at (rowsOf (now (nums .entry)) (now (names .entry)) m) i))) ⌝ }
-    ensures dirs { λ _. ⌜ now (dirs .exit) ≡ kept «dir_cap» (registered (dirsOf (now (dirs .entry)) d) (pathOf (at (rowsOf (now (nums .entry)) (now (names .entry)) m) i))) (now (dirs .entry)) ⌝ }
+    ensures told { λ r. ⌜
+        r ≡ answered «dir_cap» d (registered (dirsOf (now (dirs .entry)) d) (pathOf (at (rowsBefore nums names m) i))) ⌝ }
+    ensures dirs { λ _. ⌜
+        now (dirs .exit)
+        ≡ kept «dir_cap» (registered (dirsOf (now (dirs .entry)) d) (pathOf (at (rowsBefore nums names m) i))) (now (dirs .entry)) ⌝ }
 {
     let k = rows::path_len(nums, names, cap, m, i);
     let from = i * 480;
@@ -90,8 +94,8 @@ pub fn register_claims(
     d: usize,
 ) -> Registered
     requires { ⌜ Flat cap m (now nums) (now names) × FlatDirs «dir_cap» d (now dirs) × (n ≤ m) ⌝ }
-    ensures told { λ r. ⌜ r ≡ answered «dir_cap» d (claimed (drop n (rowsOf (now (nums .entry)) (now (names .entry)) m)) (dirsOf (now (dirs .entry)) d)) ⌝ }
-    ensures dirs { λ _. ⌜ now (dirs .exit) ≡ kept «dir_cap» (claimed (drop n (rowsOf (now (nums .entry)) (now (names .entry)) m)) (dirsOf (now (dirs .entry)) d)) (now (dirs .entry)) ⌝ }
+    ensures told { λ r. ⌜ r ≡ answered «dir_cap» d (claimedBefore nums names dirs n m d) ⌝ }
+    ensures dirs { λ _. ⌜ now (dirs .exit) ≡ kept «dir_cap» (claimedBefore nums names dirs n m d) (now (dirs .entry)) ⌝ }
 {
     let mut e = d;
     let mut i = n;
@@ -119,14 +123,25 @@ pub fn accept(
     counter: u64,
     losers: usize,
 ) -> Accepted
-    requires { ⌜ Flat (pool .rows) m (now nums) (now names) × FlatDirs (pool .«dir_rows») (pool .dirs) (now dirs) × (pool .held ≤ m) × (losers ≤ 64) ⌝ }
-    ensures out { λ r. ⌜ r .out ≡ refusal (pool .«dir_rows») (claimed (drop (pool .held) (rowsOf (now (nums .entry)) (now (names .entry)) m)) (dirsOf (now (dirs .entry)) (pool .dirs))) counter losers ⌝ }
-    ensures taken { λ r. ⌜ (r .out ≡ 0 → Taken (pool .«dir_rows») (claimed (drop (pool .held) (rowsOf (now (nums .entry)) (now (names .entry)) m)) (dirsOf (now (dirs .entry)) (pool .dirs))) (r .dirs) (three (now (nums .entry)) (now (names .entry)) (now (dirs .entry))) (three (now (nums .exit)) (now (names .exit)) (now (dirs .exit)))) ⌝ }
-    ensures back { λ r. ⌜ ((r .out ≡ 0 → ⊥) → three (now (nums .exit)) (now (names .exit)) (now (dirs .exit)) ≡ unstaged (pool .rows) (pool .held) m (three (now (nums .entry)) (now (names .entry)) (now (dirs .entry)))) ⌝ }
+    requires { ⌜
+        Flat (pool .chosen .rows) m (now nums) (now names)
+        × FlatDirs (pool .chosen .«dir_rows») (pool .dirs) (now dirs)
+        × (pool .held ≤ m)
+        × (losers ≤ 64) ⌝ }
+    ensures out { λ r. ⌜
+        r .out
+        ≡ refusal (pool .chosen .«dir_rows») (claimedBefore nums names dirs (pool .held) m (pool .dirs)) counter losers ⌝ }
+    ensures taken { λ r. ⌜
+        (r .out ≡ 0
+        → Taken (pool .chosen .«dir_rows») (claimedBefore nums names dirs (pool .held) m (pool .dirs)) (r .dirs)
+        (threeBefore nums names dirs) (threeAfter nums names dirs)) ⌝ }
+    ensures back { λ r. ⌜
+        ((r .out ≡ 0 → ⊥)
+        → threeAfter nums names dirs ≡ unstaged (pool .chosen .rows) (pool .held) m (threeBefore nums names dirs)) ⌝ }
 {
-    let cap = pool.rows;
+    let cap = pool.chosen.rows;
     let n = pool.held;
-    let dir_cap = pool.dir_rows;
+    let dir_cap = pool.chosen.dir_rows;
     let d = pool.dirs;
     let found = register_claims(nums, names, dirs, cap, n, m, dir_cap, d);
     let e = found.dirs;
@@ -181,7 +196,8 @@ pub fn unbind_losers(
     count: usize,
 )
     requires { ⌜ Flat cap m (now nums) (now names) × (count ≤ 64) × ((x : ℕ) → In x (take count losers) → x < m) ⌝ }
-    ensures rows { λ _. ⌜ rowsOf (now (nums .exit)) (now (names .exit)) m ≡ vacated (take count losers) (rowsOf (now (nums .entry)) (now (names .entry)) m) ⌝ }
+    ensures rows { λ _. ⌜
+        rowsOf (now (nums .exit)) (now (names .exit)) m ≡ vacated (take count losers) (rowsBefore nums names m) ⌝ }
     ensures flat { λ _. ⌜ Flat cap m (now (nums .exit)) (now (names .exit)) ⌝ }
 {
     let mut i = 0;
@@ -203,13 +219,18 @@ pub fn install(
     losers: [u8; 64],
     count: usize,
 ) -> Pool
-    requires { ⌜ Flat (pool .rows) m (now nums) (now names) × (pool .held ≤ m) × (m ≤ 64) × (pool .free ≤ pool .held) ⌝ }
+    requires { ⌜
+        Flat (pool .chosen .rows) m (now nums) (now names) × (pool .held ≤ m) × (m ≤ 64) × (pool .free ≤ pool .held) ⌝ }
     requires { ⌜ (count ≤ 64) × ((x : ℕ) → In x (take count losers) → x < m) ⌝ }
-    ensures pool { λ r. ⌜ r ≡ holding m dirs counter (pushedAll (spares (pool .held) (drop (pool .held) (rowsOf (now (nums .entry)) (now (names .entry)) m))) pool) ⌝ }
-    ensures rows { λ _. ⌜ rowsOf (now (nums .exit)) (now (names .exit)) m ≡ vacated (take count losers) (rowsOf (now (nums .entry)) (now (names .entry)) m) ⌝ }
-    ensures flat { λ _. ⌜ Flat (pool .rows) m (now (nums .exit)) (now (names .exit)) ⌝ }
+    ensures pool { λ r. ⌜
+        r
+        ≡ holding m dirs counter
+        (pushedAll (spares (pool .held) (drop (pool .held) (rowsBefore nums names m))) pool) ⌝ }
+    ensures rows { λ _. ⌜
+        rowsOf (now (nums .exit)) (now (names .exit)) m ≡ vacated (take count losers) (rowsBefore nums names m) ⌝ }
+    ensures flat { λ _. ⌜ Flat (pool .chosen .rows) m (now (nums .exit)) (now (names .exit)) ⌝ }
 {
-    let cap = pool.rows;
+    let cap = pool.chosen.rows;
     let n = pool.held;
     let mut r = queue_spares(nums, names, pool, cap, n, m);
     unbind_losers(nums, names, cap, m, losers, count);

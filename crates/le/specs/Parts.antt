@@ -134,3 +134,34 @@ module _ (d : List ℕ) (at : ℕ) (ys : List ℕ) where
         ap₂ (λ (f b : List ℕ). f ++ (zs ++ b)) front back
         ∙ append-assoc (take at d) ys _
         ∙ ap (λ (r : List ℕ). take at d ++ r) (sym (append-assoc ys zs _))
+
+-- A part laid in front of another is laid with it as one.
+pub laid-before : (d us vs : List ℕ) (at : ℕ) → at + length us ≤ length d → laid (laid d (at + length us) vs) at us ≡ laid d at (us ++ vs)
+unfolding laid
+laid-before d us vs at h =
+    let e : List ℕ = laid d (at + length us) vs in
+    let n : at + length (us ++ vs) ≡ at + length us + length vs = rw length-append (omega arith) in
+    ap₂ (λ (x y : List ℕ). x ++ (us ++ y)) (take-laid d (at + length us) vs h at (omega arith)) (drop-laid-at d (at + length us) vs h)
+    ∙ rw (n, append-assoc us vs (drop (at + length us + length vs) d))
+
+-- ---- what is laid within a part
+
+pub drop-laid-in : (d ys : List ℕ) (a k : ℕ) → a ≤ length d → drop a (laid d (a + k) ys) ≡ laid (drop a d) k ys
+unfolding laid
+drop-laid-in d ys a k h =
+    let e : a + k + length ys ≡ a + (k + length ys) = omega arith in
+    rw (take-add a k d, append-assoc, e, ← drop-drop (k + length ys) a d) (drop-at (take a d) _ a (length-take-le a d h))
+
+pub laid-append : (p q ys : List ℕ) (k : ℕ) → k + length ys ≤ length p → laid (p ++ q) k ys ≡ laid p k ys ++ q
+unfolding laid
+laid-append p q ys k h =
+    let l : k ≤ length p = omega arith in
+    rw (take-append-le k p q l, drop-append-le (k + length ys) p q h, append-assoc, append-assoc)
+
+pub take-laid-in : (d ys : List ℕ) (s k : ℕ) → k + length ys ≤ s → s ≤ length d → take s (laid d k ys) ≡ laid (take s d) k ys
+take-laid-in d ys s k h l =
+    let n : length (take s d) ≡ s = length-take-le s d l in
+    let m : k + length ys ≤ length (take s d) = omega arith in
+    ap (λ (x : List ℕ). take s (laid x k ys)) (sym (take-append-drop s d))
+    ∙ ap (take s) (laid-append (take s d) (drop s d) ys k m)
+    ∙ take-at (laid (take s d) k ys) (drop s d) s (length-laid (take s d) k ys m ∙ n)

@@ -1,13 +1,14 @@
--- What a line of the command program comes to: 01, "The command program".
+-- What a line of the command program comes to: 01, "The command program". Every command but `dump` is made of the public calls.
 use Prim.Native.Nat.{ℕ}
 use mathlib.Core.Bool.{false, cond}
 use mathlib.Core.List.{List, []}
 use lib.Dec.{eqb}
 use Rattle.device.specs.declared.Geometry.{Geometry}
 use Rattle.steps.specs.World.{Lent}
-use Rattle.handles.specs.Outcome.{Outcome, None}
-use Rattle.named.specs.Public.{openReadP, openWriteP, removeP, renameP}
-use Rattle.file.specs.Public.{syncP}
+use Rattle.calls_gate.specs.declared.Call.{Call}
+use Rattle.calls_gate.specs.declared.Call.the-variants.{OpenWrite, OpenRead, Sync, Rename, RemoveFile}
+use Rattle.calls_gate.specs.Replies.{Came}
+use Rattle.calls_gate.specs.Calls.{callP}
 use Rattle.writer.specs.Writer.{Shown, poured}
 use Rattle.commands.specs.Commands.{Request, create, sync, remove, move, dump, what, requestOf}
 use Rattle.answers.specs.Answers.{whatText, noText, endText, openText}
@@ -17,64 +18,64 @@ use Rattle.dump.specs.Dump.{dumpAnswer}
 abbrev pub card : Geometry
 card = record { size = 1024 }
 
+-- What a call comes to on the program's device. None of its calls fills a buffer.
+unfoldable pub onCard : Call → List ℕ → List ℕ → Lent → Came
+onCard c one two l = callP [] card c one two [] l
+
 -- What is answered, and what is left behind.
-pub record Told : Type 0 where
+pub record Response : Type 0 where
   pub text : List ℕ
   pub left : Lent
 
-abbrev pub told : List ℕ → Lent → Told
-told t l = record { text = t; left = l }
+abbrev pub response : List ℕ → Lent → Response
+response t l = record { text = t; left = l }
 
 -- ---- the commands
 
--- "`create P` (truncating open)"
-unfoldable pub createT : List ℕ → Lent → Told
-createT path l = let o = openWriteP [] card path false l in told (openText (o .out) (o .results .slot) (o .results .generation) (o .results .len)) (o .left)
+-- By the number of a call: "`ok` .., `no N` for a refusal".
+abbrev pub byNumber : Came → Response
+byNumber x = response (endText (x .number)) (x .left)
 
--- "`ok` .., `no N` for a refusal", by the number of a call
-abbrev pub ended : Outcome None Lent → Told
-ended o = told (endText (o .out)) (o .left)
+-- "`ok SLOT GEN LEN` for create".
+abbrev pub byHandle : Came → Response
+byHandle x = response (openText (x .number) (x .told .slot) (x .told .generation) (x .told .len)) (x .left)
+
+-- A call that is answered by its number.
+unfoldable pub numberT : Call → List ℕ → List ℕ → Lent → Response
+numberT c one two l = byNumber (onCard c one two l)
+
+-- "`create P` (truncating open)"
+unfoldable pub createT : List ℕ → Lent → Response
+createT path l = byHandle (onCard (OpenWrite false) path [] l)
 
 -- "`sync` opens for reading, then syncs."
-unfoldable pub syncT : List ℕ → Lent → Told
+unfoldable pub syncT : List ℕ → Lent → Response
 syncT path l =
-    let o = openReadP path (l .bufs) in
-    cond (eqb (o .out) 0) (ended (syncP [] card (o .results .slot) (o .results .generation) l)) (told (noText (o .out)) l)
-
-unfoldable pub removeT : List ℕ → Lent → Told
-removeT path l = ended (removeP [] card path l)
-
-unfoldable pub moveT : List ℕ → List ℕ → Lent → Told
-moveT from to l = ended (renameP [] card from to l)
-
-unfoldable pub dumpT : Lent → Told
-dumpT l = told (dumpAnswer (l .bufs)) l
-
-unfoldable pub whatT : Lent → Told
-whatT l = told whatText l
+    let x = onCard OpenRead path [] l in
+    cond (eqb (x .number) 0) (numberT (Sync (x .told .slot) (x .told .generation)) [] [] (x .left)) (response (noText (x .number)) (x .left))
 
 -- ---- a line
 
-unfoldable pub requestT : Request → Lent → Told
+unfoldable pub requestT : Request → Lent → Response
 requestT (create p) l = createT p l
 requestT (sync p) l = syncT p l
-requestT (remove p) l = removeT p l
-requestT (move a b) l = moveT a b l
-requestT dump l = dumpT l
-requestT what l = whatT l
+requestT (remove p) l = numberT RemoveFile p [] l
+requestT (move a b) l = numberT Rename a b l
+requestT dump l = response (dumpAnswer (l .bufs)) l
+requestT what l = response whatText l
 
-unfoldable pub lineT : List ℕ → Lent → Told
+unfoldable pub lineT : List ℕ → Lent → Response
 lineT line l = requestT (requestOf line) l
 
 -- ---- with the buffer that takes the answer
 
-pub record Spoken : Type 0 where
+pub record Printed : Type 0 where
   pub shown : Shown
   pub left : Lent
 
-abbrev pub spoken : Shown → Lent → Spoken
-spoken s l = record { shown = s; left = l }
+abbrev pub printed : Shown → Lent → Printed
+printed s l = record { shown = s; left = l }
 
 -- The answer goes to the buffer as far as that reaches.
-unfoldable pub says : Told → List ℕ → Spoken
-says t out = spoken (poured (t .text) out) (t .left)
+unfoldable pub prints : Response → List ℕ → Printed
+prints t out = printed (poured (t .text) out) (t .left)

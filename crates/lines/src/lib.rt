@@ -1,29 +1,109 @@
-// What the command program does with one line: 01, "The command program". The device has slots of 1,024 bytes and no plan. The line's call
-// is made on what is lent, by the public calls, and its answer is put into a lent buffer; a buffer that is too short gets the front of it,
-// and the whole length is given back. Nothing is refused: a line of no form is answered too. The Rust has no such program.
+// What the command program does with one line: 01, "The command program". The device has slots of 1,024 bytes and no plan. The line's
+// calls are made on what is lent, by the one function of the public calls, and its answer is put into a lent buffer; a buffer that is too
+// short gets the front of it, and the whole length is given back. Nothing is refused: a line of no form is answered too. The Rust has no
+// such program.
+use calls_gate::Call;
+use calls_gate::Reply;
 use commands::Command;
 use device::Geometry;
 use device::Place;
 use table::Pool;
 ghost use mathlib.Core.Path.{_≡_};
-ghost use Rattle.device.specs.Device.{dev};
-ghost use Rattle.table.specs.State.{bufs};
-ghost use Rattle.steps.specs.World.{lent};
+ghost use mathlib.Core.List.{[]};
+ghost use Rattle.steps.specs.World.{before, after};
 ghost use Rattle.writer.specs.Writer.{shown};
-ghost use Rattle.lines.specs.Lines.{card, spoken, says, createT, syncT, removeT, moveT, lineT};
+ghost use Rattle.calls_gate.specs.Answers.{numberOf};
+ghost use Rattle.calls_gate.specs.Replies.{came};
+ghost use Rattle.lines.specs.Lines.{card, onCard, printed, prints, createT, syncT, numberT, lineT};
 
 // How long the answer is; the place and the record after the line.
-pub struct Said {
+pub struct AfterLine {
     pub len: usize,
     pub place: Place,
     pub pool: Pool,
 }
 
 // The device: slots of 1,024 bytes.
-pub fn geometry() -> Geometry
+fn geometry() -> Geometry
     ensures { λ r. ⌜ r ≡ card ⌝ }
 {
     Geometry { size: 1024 }
+}
+
+// Makes a call on the program's device.
+pub fn ask(
+    bytes: &mut [u8],
+    phys: &mut [u64],
+    place: Place,
+    nums: &mut [u64],
+    names: &mut [u8],
+    dirs: &mut [u8],
+    pool: Pool,
+    call: Call,
+    first: &[u8],
+    second: &[u8],
+) -> Reply
+    ensures { λ r. ⌜
+        came (numberOf (r .answer)) (r .told) (after bytes phys (r .place) nums names dirs (r .pool)) []
+        ≡ onCard call (now (first .entry)) (now (second .entry)) (before bytes phys place nums names dirs pool) ⌝ }
+{
+    let mut none = [0u8; 0];
+    calls::make(
+        bytes,
+        phys,
+        geometry(),
+        b"",
+        place,
+        nums,
+        names,
+        dirs,
+        pool,
+        call,
+        first,
+        second,
+        &mut none,
+    )
+}
+
+// Makes a call, and answers it by its number.
+fn end(
+    bytes: &mut [u8],
+    phys: &mut [u64],
+    place: Place,
+    nums: &mut [u64],
+    names: &mut [u8],
+    dirs: &mut [u8],
+    pool: Pool,
+    call: Call,
+    first: &[u8],
+    second: &[u8],
+    out: &mut [u8],
+) -> AfterLine
+    ensures { λ r. ⌜
+        printed (shown (now (out .exit)) (r .len)) (after bytes phys (r .place) nums names dirs (r .pool))
+        ≡ prints (numberT call (now (first .entry)) (now (second .entry)) (before bytes phys place nums names dirs pool))
+        (now (out .entry)) ⌝ }
+{
+    let done = ask(
+        bytes,
+        phys,
+        place,
+        nums,
+        names,
+        dirs,
+        pool,
+        call,
+        first,
+        second,
+    );
+    let answer = done.answer;
+    let after = done.place;
+    let left = done.pool;
+    AfterLine {
+        len: answers::say_end(out, calls_gate::number(answer)),
+        place: after,
+        pool: left,
+    }
 }
 
 // `create P`: a truncating open.
@@ -37,29 +117,20 @@ fn create(
     pool: Pool,
     path: &[u8],
     out: &mut [u8],
-) -> Said
-    ensures { λ r. ⌜ spoken (shown (now (out .exit)) (r .len)) (lent (dev (now (bytes .exit)) (now (phys .exit)) (r .place)) (bufs (r .pool) (now (nums .exit)) (now (names .exit)) (now (dirs .exit)))) ≡ says (createT (now (path .entry)) (lent (dev (now (bytes .entry)) (now (phys .entry)) place) (bufs pool (now (nums .entry)) (now (names .entry)) (now (dirs .entry))))) (now (out .entry)) ⌝ }
+) -> AfterLine
+    ensures { λ r. ⌜
+        printed (shown (now (out .exit)) (r .len)) (after bytes phys (r .place) nums names dirs (r .pool))
+        ≡ prints (createT (now (path .entry)) (before bytes phys place nums names dirs pool)) (now (out .entry)) ⌝ }
 {
-    let done = named::open_write(
-        bytes,
-        phys,
-        geometry(),
-        b"",
-        place,
-        nums,
-        names,
-        dirs,
-        pool,
-        path,
-        false,
-    );
+    let call = Call::OpenWrite { keep: false };
+    let done = ask(bytes, phys, place, nums, names, dirs, pool, call, path, b"");
     let answer = done.answer;
+    let told = done.told;
     let after = done.place;
     let left = done.pool;
-    let number = gate::number(answer);
-    let len = answers::say_open(out, number, done.slot, done.generation, done.len);
-    Said {
-        len: len,
+    let number = calls_gate::number(answer);
+    AfterLine {
+        len: answers::say_open(out, number, told.slot, told.generation, told.len),
         place: after,
         pool: left,
     }
@@ -71,121 +142,47 @@ fn sync(
     phys: &mut [u64],
     place: Place,
     nums: &mut [u64],
-    names: &[u8],
-    dirs: &[u8],
-    pool: Pool,
-    path: &[u8],
-    out: &mut [u8],
-) -> Said
-    ensures { λ r. ⌜ spoken (shown (now (out .exit)) (r .len)) (lent (dev (now (bytes .exit)) (now (phys .exit)) (r .place)) (bufs (r .pool) (now (nums .exit)) (now (names .entry)) (now (dirs .entry)))) ≡ says (syncT (now (path .entry)) (lent (dev (now (bytes .entry)) (now (phys .entry)) place) (bufs pool (now (nums .entry)) (now (names .entry)) (now (dirs .entry))))) (now (out .entry)) ⌝ }
-{
-    let opened = named::open_read(nums, names, dirs, pool, path);
-    let refusal = opened.answer;
-    let no = gate::number(refusal);
-    if no != 0 {
-        return Said {
-            len: answers::say_no(out, no),
-            place: place,
-            pool: pool,
-        };
-    }
-    let done = file::sync(
-        bytes,
-        phys,
-        geometry(),
-        b"",
-        place,
-        nums,
-        names,
-        dirs,
-        pool,
-        opened.slot,
-        opened.generation,
-    );
-    let answer = done.answer;
-    let after = done.place;
-    let number = gate::number(answer);
-    Said {
-        len: answers::say_end(out, number),
-        place: after,
-        pool: pool,
-    }
-}
-
-// `rm P`.
-fn remove(
-    bytes: &mut [u8],
-    phys: &mut [u64],
-    place: Place,
-    nums: &mut [u64],
-    names: &mut [u8],
-    dirs: &[u8],
-    pool: Pool,
-    path: &[u8],
-    out: &mut [u8],
-) -> Said
-    ensures { λ r. ⌜ spoken (shown (now (out .exit)) (r .len)) (lent (dev (now (bytes .exit)) (now (phys .exit)) (r .place)) (bufs (r .pool) (now (nums .exit)) (now (names .exit)) (now (dirs .entry)))) ≡ says (removeT (now (path .entry)) (lent (dev (now (bytes .entry)) (now (phys .entry)) place) (bufs pool (now (nums .entry)) (now (names .entry)) (now (dirs .entry))))) (now (out .entry)) ⌝ }
-{
-    let done = named::remove_file(
-        bytes,
-        phys,
-        geometry(),
-        b"",
-        place,
-        nums,
-        names,
-        dirs,
-        pool,
-        path,
-    );
-    let answer = done.answer;
-    let after = done.place;
-    let left = done.pool;
-    let number = gate::number(answer);
-    Said {
-        len: answers::say_end(out, number),
-        place: after,
-        pool: left,
-    }
-}
-
-// `mv A B`.
-fn rename(
-    bytes: &mut [u8],
-    phys: &mut [u64],
-    place: Place,
-    nums: &mut [u64],
     names: &mut [u8],
     dirs: &mut [u8],
     pool: Pool,
-    from: &[u8],
-    to: &[u8],
+    path: &[u8],
     out: &mut [u8],
-) -> Said
-    ensures { λ r. ⌜ spoken (shown (now (out .exit)) (r .len)) (lent (dev (now (bytes .exit)) (now (phys .exit)) (r .place)) (bufs (r .pool) (now (nums .exit)) (now (names .exit)) (now (dirs .exit)))) ≡ says (moveT (now (from .entry)) (now (to .entry)) (lent (dev (now (bytes .entry)) (now (phys .entry)) place) (bufs pool (now (nums .entry)) (now (names .entry)) (now (dirs .entry))))) (now (out .entry)) ⌝ }
+) -> AfterLine
+    ensures { λ r. ⌜
+        printed (shown (now (out .exit)) (r .len)) (after bytes phys (r .place) nums names dirs (r .pool))
+        ≡ prints (syncT (now (path .entry)) (before bytes phys place nums names dirs pool)) (now (out .entry)) ⌝ }
 {
-    let done = named::rename(
+    let read = Call::OpenRead;
+    let opened = ask(bytes, phys, place, nums, names, dirs, pool, read, path, b"");
+    let answer = opened.answer;
+    let told = opened.told;
+    let after = opened.place;
+    let left = opened.pool;
+    let no = calls_gate::number(answer);
+    if no != 0 {
+        return AfterLine {
+            len: answers::say_no(out, no),
+            place: after,
+            pool: left,
+        };
+    }
+    let call = Call::Sync {
+        slot: told.slot,
+        generation: told.generation,
+    };
+    end(
         bytes,
         phys,
-        geometry(),
-        b"",
-        place,
+        after,
         nums,
         names,
         dirs,
-        pool,
-        from,
-        to,
-    );
-    let answer = done.answer;
-    let after = done.place;
-    let left = done.pool;
-    let number = gate::number(answer);
-    Said {
-        len: answers::say_end(out, number),
-        place: after,
-        pool: left,
-    }
+        left,
+        call,
+        b"",
+        b"",
+        out,
+    )
 }
 
 // Does what the line asks for, and answers it.
@@ -199,8 +196,10 @@ pub fn answer_line(
     pool: Pool,
     line: &[u8],
     out: &mut [u8],
-) -> Said
-    ensures { λ r. ⌜ spoken (shown (now (out .exit)) (r .len)) (lent (dev (now (bytes .exit)) (now (phys .exit)) (r .place)) (bufs (r .pool) (now (nums .exit)) (now (names .exit)) (now (dirs .exit)))) ≡ says (lineT (now (line .entry)) (lent (dev (now (bytes .entry)) (now (phys .entry)) place) (bufs pool (now (nums .entry)) (now (names .entry)) (now (dirs .entry))))) (now (out .entry)) ⌝ }
+) -> AfterLine
+    ensures { λ r. ⌜
+        printed (shown (now (out .exit)) (r .len)) (after bytes phys (r .place) nums names dirs (r .pool))
+        ≡ prints (lineT (now (line .entry)) (before bytes phys place nums names dirs pool)) (now (out .entry)) ⌝ }
 {
     let command = commands::parse(line);
     match command {
@@ -211,10 +210,8 @@ pub fn answer_line(
             return sync(bytes, phys, place, nums, names, dirs, pool, &line[i..], out);
         }
         Command::Remove(i) => {
-            return remove(bytes, phys, place, nums, names, dirs, pool, &line[i..], out);
-        }
-        Command::Move(i, j) => {
-            return rename(
+            let call = Call::RemoveFile;
+            return end(
                 bytes,
                 phys,
                 place,
@@ -222,20 +219,37 @@ pub fn answer_line(
                 names,
                 dirs,
                 pool,
+                call,
+                &line[i..],
+                b"",
+                out,
+            );
+        }
+        Command::Move(i, j) => {
+            let call = Call::Rename;
+            return end(
+                bytes,
+                phys,
+                place,
+                nums,
+                names,
+                dirs,
+                pool,
+                call,
                 &line[i..j],
                 &line[j + 1..],
                 out,
             );
         }
         Command::Dump => {
-            return Said {
+            return AfterLine {
                 len: dump::say_dump(nums, names, dirs, pool, out),
                 place: place,
                 pool: pool,
             };
         }
         Command::What => {
-            return Said {
+            return AfterLine {
                 len: answers::say_what(out),
                 place: place,
                 pool: pool,

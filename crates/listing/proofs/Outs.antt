@@ -65,26 +65,26 @@ module _ (b : Bufs) (P : IsPool b) (path : List ℕ) where
   abbrev ds : List (List ℕ)
   ds = dirsOf (b .dirs) (b .pool .dirs)
 
-  F : Flat (b .pool .rows) (b .pool .held) (b .nums) (b .names)
+  F : Flat (b .pool .chosen .rows) (b .pool .held) (b .nums) (b .names)
   F = pool-rows b P
 
-  G : FlatDirs (b .pool .«dir_rows») (b .pool .dirs) (b .dirs)
+  G : FlatDirs (b .pool .chosen .«dir_rows») (b .pool .dirs) (b .dirs)
   G = pool-dirs b P
 
   -- ---- what is lent
 
   few : b .pool .held ≤ 64
   unfolding view
-  few = omega (arith, F .few, P .valid .small)
+  few = omega (arith, F .few, P .valid .counts .small)
 
   dirs-few : b .pool .dirs ≤ 256
   unfolding view
-  dirs-few = omega (arith, G .few, P .valid .dirs-small)
+  dirs-few = omega (arith, G .few, P .valid .counts .dirs-small)
 
   pub dirs-lent : b .pool .dirs * 482 ≤ length (b .dirs)
-  dirs-lent = omega (arith, dirs-long (b .pool .«dir_rows») (b .pool .dirs) (b .dirs) G, G .few)
+  dirs-lent = omega (arith, dirs-long (b .pool .chosen .«dir_rows») (b .pool .dirs) (b .dirs) G, G .few)
 
-  pub files-ready : Flat (b .pool .rows) (b .pool .held) (b .nums) (b .names) × (b .pool .held ≤ 256) × (b .pool .held ≤ 64)
+  pub files-ready : Flat (b .pool .chosen .rows) (b .pool .held) (b .nums) (b .names) × (b .pool .held ≤ 256) × (b .pool .held ≤ 64)
   files-ready = (F, omega (arith, few), few)
 
   pub dirs-ready : (b .pool .dirs * 482 ≤ length (b .dirs)) × (b .pool .dirs ≤ 256) × (b .pool .dirs ≤ 256)
@@ -107,7 +107,8 @@ module _ (b : Bufs) (P : IsPool b) (path : List ℕ) where
   files-inside : AllInside (b .names) (childFiles path rs)
   files-inside =
       rw (child-files path (b .nums) (b .names) (b .pool .held))
-      (picks-inside (b .names) (fileSpan rs) (λ (i : ℕ). isChild path (at rs i)) (b .pool .held) (file-inside (b .pool .rows) (b .pool .held) (b .nums) (b .names) F))
+      (picks-inside (b .names) (fileSpan rs) (λ (i : ℕ). isChild path (at rs i)) (b .pool .held)
+      (file-inside (b .pool .chosen .rows) (b .pool .held) (b .nums) (b .names) F))
 
   folders-inside : AllInside (b .dirs) (childDirs path ds)
   folders-inside =
@@ -117,7 +118,7 @@ module _ (b : Bufs) (P : IsPool b) (path : List ℕ) where
   files-spell : map (spelled (b .names)) (childFiles path rs) ≡ filesIn path (view b)
   unfolding childFiles filesIn view
   files-spell =
-      spell-each (b .names) (fileSpan rs) (λ (i : ℕ). pathOf (at rs i)) (file-spelled (b .pool .rows) (b .pool .held) (b .nums) (b .names) F)
+      spell-each (b .names) (fileSpan rs) (λ (i : ℕ). pathOf (at rs i)) (file-spelled (b .pool .chosen .rows) (b .pool .held) (b .nums) (b .names) F)
       (keep (λ (i : ℕ). isChild path (at rs i)) (range 0 (length rs)))
       ∙ picked-rows (isChild path) pathOf none rs
 

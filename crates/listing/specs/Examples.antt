@@ -7,7 +7,7 @@ use Rattle.lists.specs.Order.{cmpNat, lex}
 use Rattle.lists.specs.Same.{same}
 use Rattle.lists.specs.Sort.{keep, insert, sort}
 use Rattle.path.specs.Path.{grow, cut, split, idle, names, opening, components, samePath, init, isRoot, hasParent, isParent, slash, join, normal, pathOrder}
-use Rattle.rows.specs.Rows.{unbound, bound, isBound, pathOf}
+use Rattle.rows.specs.Rows.{file, unbound, bound, isBound, pathOf}
 use Rattle.dirs.specs.Dirs.{hasPath}
 use Rattle.table.specs.State.{State}
 use Rattle.order.specs.Spans.{pathBefore, inOrder}
@@ -16,11 +16,10 @@ use Rattle.listing.specs.Listing.{isChild, filesIn, dirsIn, entry, listi
 -- a pool with the files `a/c`, `a//b`, `a.b` and the directories `a`, `a/d`, `/` and the empty path
 held : State
 held = record {
-  cap = 4;
-  dirCap = 4;
-  rows = bound (97 ∷ 47 ∷ 99 ∷ []) 1 0 false
-      ∷ bound (97 ∷ 47 ∷ 47 ∷ 98 ∷ []) 2 0 false
-      ∷ bound (97 ∷ 46 ∷ 98 ∷ []) 3 0 false
+  chosen = record { rows = 4; «dir_rows» = 4 };
+  rows = bound (97 ∷ 47 ∷ 99 ∷ []) (file 1 0 false)
+      ∷ bound (97 ∷ 47 ∷ 47 ∷ 98 ∷ []) (file 2 0 false)
+      ∷ bound (97 ∷ 46 ∷ 98 ∷ []) (file 3 0 false)
       ∷ unbound 0
       ∷ [];
   dirs = (97 ∷ []) ∷ (97 ∷ 47 ∷ 100 ∷ []) ∷ (47 ∷ []) ∷ [] ∷ [];

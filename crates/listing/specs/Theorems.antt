@@ -1,6 +1,6 @@
 -- What a listing is: its files rise in byte order of normal spelling, and so do its directories; they are the files and directories of the
 -- path and no others; and what read_dir answers is one of 01's numbers.
-use Prim.Native.Nat.{ℕ, _≤_}
+use Prim.Native.Nat.{ℕ}
 use native.Mathlib.Omega.{arith}
 use mathlib.Core.Path.{_≡_, refl, sym, ap, subst, _∙_}
 use mathlib.Core.Bool.{Bool, true, false, cond}
@@ -16,6 +16,7 @@ use Rattle.path.specs.Path.{normal, isParent, pathOrder}
 use Rattle.path.specs.Theorems.{same-normal}
 use Rattle.rows.specs.Rows.{Row, none, at, isBound, pathOf}
 use Rattle.dirs.specs.Dirs.{Normals, hasPath}
+use Rattle.table.specs.Numbers.{isNumber}
 use Rattle.table.specs.State.{State, Valid}
 use Rattle.order.specs.Spans.{pathBefore, inOrder}
 use Rattle.order.specs.Laws.{map-sort}
@@ -25,12 +26,12 @@ use Rattle.listing.specs.Listing.{isChild, filesIn, dirsIn, listingOf, l
 
 -- ---- the numbers
 
-pub read-dir-number : (dir buf : List ℕ) (s : State) → readDirM dir buf s .out ≤ 13
+pub read-dir-number : (dir buf : List ℕ) (s : State) → isNumber (readDirM dir buf s .out)
 unfolding readDirM fitted
 read-dir-number dir buf s = go (hasPath (s .dirs) dir) (leb (length (listingOf dir s)) (length buf))
   where
     go : (t u : Bool)
-        → cond t (cond u (listing 0 (length (listingOf dir s)) (listingOf dir s ++ drop (length (listingOf dir s)) buf)) (listing 13 0 buf)) (listing 5 0 buf) .out ≤ 13
+        → isNumber (cond t (cond u (listing 0 (length (listingOf dir s)) (listingOf dir s ++ drop (length (listingOf dir s)) buf)) (listing 13 0 buf)) (listing 5 0 buf) .out)
     go true true = omega arith
     go true false = omega arith
     go false u = omega arith
@@ -61,7 +62,7 @@ files-rise dir s ok =
     let rs = s .rows in
     let path : ℕ → List ℕ = λ i. pathOf (at rs i) in
     let child : ℕ → Bool = λ i. isChild dir (at rs i) in
-    let o = rows-rise path child (length rs) (λ i j h k a b e. ok .apart i j (child-bound dir (at rs i) a) (child-bound dir (at rs j) b) e) in
+    let o = rows-rise path child (length rs) (λ i j h k a b e. ok .slots .apart i j (child-bound dir (at rs i) a) (child-bound dir (at rs j) b) e) in
     subst (Ordered pathBefore)
     (map-sort path (by pathOrder path) pathBefore (λ x y. refl) (keep child (range 0 (length rs)))
     ∙ ap (sort pathBefore) (picked-rows (isChild dir) pathOf none rs))
@@ -84,4 +85,4 @@ pub dirs-rise : (dir : List ℕ) (s : State) → Valid s → Ordered pathBefore 
 unfolding dirsIn inOrder
 dirs-rise dir s ok =
     ordered-sort pathBefore path-strict (keep (isParent dir) (s .dirs))
-    (apart-keep (isParent dir) pathBefore (s .dirs) (dirs-apart (s .dirs) (ok .directories .normals) (ok .directories .once)))
+    (apart-keep (isParent dir) pathBefore (s .dirs) (dirs-apart (s .dirs) (ok .directories .dirs .normals) (ok .directories .dirs .once)))

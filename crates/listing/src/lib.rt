@@ -11,7 +11,7 @@ ghost use Rattle.lists.specs.Sort.{sort};
 ghost use Rattle.path.specs.Path.{isParent};
 ghost use Rattle.rows.specs.Rows.{at, rowsOf, Flat};
 ghost use Rattle.dirs.specs.Rows.{dirsOf};
-ghost use Rattle.table.specs.State.{bufs, view, IsPool};
+ghost use Rattle.table.specs.State.{bufs, bufsBefore, view, IsPool};
 ghost use Rattle.order.specs.Spans.{AllInside, before};
 ghost use Rattle.listing.specs.Listing.{isChild, entry, listing, readDirM};
 ghost use Rattle.listing.specs.Parts.{childFiles, childDirs, sizeOf, entries};
@@ -55,7 +55,10 @@ fn child_files(
     spans: &mut [u32],
 ) -> usize
     requires { ⌜ Flat cap n (now nums) (now names) × (n ≤ 256) × (n ≤ length (now spans)) ⌝ }
-    ensures { λ r. ⌜ (r ≡ length (childFiles (now (dir .entry)) (rowsOf (now (nums .entry)) (now (names .entry)) n))) × (now (spans .exit) ≡ sets (now (spans .entry)) 0 (childFiles (now (dir .entry)) (rowsOf (now (nums .entry)) (now (names .entry)) n))) ⌝ }
+    ensures count { λ r. ⌜ r ≡ length (childFiles (now (dir .entry)) (rowsOf (now (nums .entry)) (now (names .entry)) n)) ⌝ }
+    ensures picked { λ _. ⌜
+        now (spans .exit)
+        ≡ sets (now (spans .entry)) 0 (childFiles (now (dir .entry)) (rowsOf (now (nums .entry)) (now (names .entry)) n)) ⌝ }
 {
     let mut count = 0;
     let mut i = 0;
@@ -73,7 +76,9 @@ fn child_files(
 // Writes the spellings of the directory's directories, by row, to the front of spans, and says how many they are.
 fn child_dirs(dirs: &[u8], m: usize, dir: &[u8], spans: &mut [u32]) -> usize
     requires { ⌜ (m * 482 ≤ length (now dirs)) × (m ≤ 256) × (m ≤ length (now spans)) ⌝ }
-    ensures { λ r. ⌜ (r ≡ length (childDirs (now (dir .entry)) (dirsOf (now (dirs .entry)) m))) × (now (spans .exit) ≡ sets (now (spans .entry)) 0 (childDirs (now (dir .entry)) (dirsOf (now (dirs .entry)) m))) ⌝ }
+    ensures count { λ r. ⌜ r ≡ length (childDirs (now (dir .entry)) (dirsOf (now (dirs .entry)) m)) ⌝ }
+    ensures picked { λ _. ⌜
+        now (spans .exit) ≡ sets (now (spans .entry)) 0 (childDirs (now (dir .entry)) (dirsOf (now (dirs .entry)) m)) ⌝ }
 {
     let mut count = 0;
     let mut j = 0;
@@ -116,7 +121,8 @@ fn put_entry(path: &[u8], buf: &mut [u8], at: usize, kind: u8)
 // Writes the entries of these parts, one behind the other, from index at on, and returns the index behind them.
 fn put_entries(bytes: &[u8], spans: &[u32], buf: &mut [u8], at: usize, kind: u8) -> usize
     requires { ⌜ AllInside (now bytes) (now spans) × (at + length (entries kind (now bytes) (now spans)) ≤ length (now buf)) ⌝ }
-    ensures { λ r. ⌜ (r ≡ at + length (entries kind (now (bytes .entry)) (now (spans .entry)))) × (now (buf .exit) ≡ sets (now (buf .entry)) at (entries kind (now (bytes .entry)) (now (spans .entry)))) ⌝ }
+    ensures end { λ r. ⌜ r ≡ at + length (entries kind (now (bytes .entry)) (now (spans .entry))) ⌝ }
+    ensures written { λ _. ⌜ now (buf .exit) ≡ sets (now (buf .entry)) at (entries kind (now (bytes .entry)) (now (spans .entry))) ⌝ }
 {
     let mut end = at;
     let mut i = 0;
@@ -131,10 +137,23 @@ fn put_entries(bytes: &[u8], spans: &[u32], buf: &mut [u8], at: usize, kind: u8)
     end
 }
 
-// Puts the parts in order, and writes their entries to the front of the buffer: the files, then the directories. Returns how many bytes they take.
+// Puts the parts in order, and writes their entries to the front of the buffer: the files, then the directories. Returns how many bytes
+// they take.
 fn fill(names: &[u8], dirs: &[u8], files: &mut [u32], folders: &mut [u32], buf: &mut [u8]) -> usize
-    requires { ⌜ AllInside (now names) (now files) × AllInside (now dirs) (now folders) × (length (entries 0 (now names) (now files)) + length (entries 1 (now dirs) (now folders)) ≤ length (now buf)) ⌝ }
-    ensures { λ r. ⌜ (r ≡ length (entries 0 (now (names .entry)) (now (files .entry))) + length (entries 1 (now (dirs .entry)) (now (folders .entry)))) × (now (files .exit) ≡ sort (before (now (names .entry))) (now (files .entry))) × (now (folders .exit) ≡ sort (before (now (dirs .entry))) (now (folders .entry))) × (now (buf .exit) ≡ sets (now (buf .entry)) 0 (entries 0 (now (names .entry)) (sort (before (now (names .entry))) (now (files .entry))) ++ entries 1 (now (dirs .entry)) (sort (before (now (dirs .entry))) (now (folders .entry))))) ⌝ }
+    requires { ⌜
+        AllInside (now names) (now files)
+        × AllInside (now dirs) (now folders)
+        × (length (entries 0 (now names) (now files)) + length (entries 1 (now dirs) (now folders)) ≤ length (now buf)) ⌝ }
+    ensures size { λ r. ⌜
+        r
+        ≡ length (entries 0 (now (names .entry)) (now (files .entry))) + length (entries 1 (now (dirs .entry)) (now (folders .entry))) ⌝ }
+    ensures first { λ _. ⌜ now (files .exit) ≡ sort (before (now (names .entry))) (now (files .entry)) ⌝ }
+    ensures second { λ _. ⌜ now (folders .exit) ≡ sort (before (now (dirs .entry))) (now (folders .entry)) ⌝ }
+    ensures written { λ _. ⌜
+        now (buf .exit)
+        ≡ sets (now (buf .entry)) 0
+        (entries 0 (now (names .entry)) (sort (before (now (names .entry))) (now (files .entry)))
+        ++ entries 1 (now (dirs .entry)) (sort (before (now (dirs .entry))) (now (folders .entry)))) ⌝ }
 {
     order::sort(names, files);
     order::sort(dirs, folders);
@@ -152,9 +171,11 @@ pub fn read_dir(
     buf: &mut [u8],
 ) -> Listed
     requires { ⌜ IsPool (bufs pool (now nums) (now names) (now dirs)) ⌝ }
-    ensures { λ r. ⌜ listing (r .out) (r .size) (now (buf .exit)) ≡ readDirM (now (path .entry)) (now (buf .entry)) (view (bufs pool (now (nums .entry)) (now (names .entry)) (now (dirs .entry)))) ⌝ }
+    ensures { λ r. ⌜
+        listing (r .out) (r .size) (now (buf .exit))
+        ≡ readDirM (now (path .entry)) (now (buf .entry)) (view (bufsBefore nums names dirs pool)) ⌝ }
 {
-    let cap = pool.rows;
+    let cap = pool.chosen.rows;
     let n = pool.held;
     let m = pool.dirs;
     if !dirs::dir_find(dirs, m, path) {

@@ -7,6 +7,7 @@ use native.Mathlib.Nat.{add-zero, zero-add, suc-add, add-suc, mul-le-mul-right, 
 use native.Mathlib.Omega.{arith}
 use lib.ListN.{length, getD, set, take, drop, replicate, length-append, length-replicate, length-take, length-set, getD-replicate, List·getD-append}
 use lib.Seq.{sets, sets-eq, length-sets, take-append-le, take-all, drop-append-le, take-at, drop-at, set-at, drop-append-add, getD-append-add, set-append-left, length-take-le, drop-drop}
+use Rattle.lists.specs.Fronts.{drop-zeros, take-zeros}
 
 -- xs, cut or zero filled to the length w
 unfoldable pub pad : ℕ → List ℕ → List ℕ
@@ -58,6 +59,11 @@ snoc-pad w xs a h =
 unfoldable pub cat : {A : Type 0} → (A → List ℕ) → List A → List ℕ
 cat f [] = []
 cat f (r ∷ rs) = f r ++ cat f rs
+
+pub cat-append : {A : Type 0} (f : A → List ℕ) (rs ts : List A) → cat f (rs ++ ts) ≡ cat f rs ++ cat f ts
+unfolding cat
+cat-append f [] ts = refl
+cat-append f (r ∷ rs) ts = rw (cat-append f rs ts, append-assoc)
 
 set-right : (p l : List ℕ) (k a : ℕ) → set (p ++ l) (length p + k) a ≡ p ++ set l k a
 set-right [] l k a = rw zero-add
@@ -129,6 +135,16 @@ module _ {A : Type 0} (f : A → List ℕ) (w : ℕ) (wide : (r : A) → length 
   flat-set n rs i r m h =
       let z : i * w + length (f r) ≤ length (cat f rs) = omega (arith, wide r, length-cat rs, mul-le-mul-right {m = suc i} {n = length rs} w h) in
       sets-pad (n * w) (cat f rs) (f r) (i * w) z (roomy n rs m) ∙ rw (cat-set rs i r h)
+
+  -- the first free block is zero
+  pub flat-free : (n : ℕ) (rs : List A) → length rs < n → (i k : ℕ) → i + k ≤ w
+      → take k (drop (length rs * w + i) (pad (n * w) (cat f rs))) ≡ replicate k 0
+  flat-free n rs h i k l =
+      let c : List ℕ = cat f rs in
+      let room : length c + w ≤ n * w = omega (arith, length-cat rs, mul-le-mul-right {m = suc (length rs)} {n = n} w h) in
+      let z : length rs * w + i ≡ length c + i = omega (arith, length-cat rs) in
+      rw (pad-fits (n * w) c (omega arith), z, drop-append-add c (replicate (n * w - length c) 0) i, drop-zeros i (n * w - length c))
+      (take-zeros k (n * w - length c - i) (omega arith))
 
 -- ---- runs of stores
 

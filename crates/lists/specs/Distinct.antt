@@ -2,7 +2,7 @@
 use Prim.Native.Nat.{ℕ, zero, suc, _+_, _≤_, _<_}
 use native.Mathlib.Omega.{arith}
 use mathlib.Core.Path.{_≡_, refl, ap, sym, _∙_}
-use mathlib.Core.Logic.{_≢_, _⊎_, inl, inr}
+use mathlib.Core.Logic.{_≢_, _⊎_, inl, inr, ⊎-elim}
 use mathlib.Core.List.{List, [], _∷_, _++_, List·Memᴰ, List·Memᴰ·head, List·Memᴰ·tail, List·Memᴰ·not-nil, List·Memᴰ·cases-cons, Memᴰ·cast}
 use lib.ListN.{length}
 use mathlib.Core.List.{List·Memᴰ·append-cases, List·Memᴰ·eq-of-singleton}
@@ -32,6 +32,12 @@ module _ {A : Type 0} where
       go : In x xs ⊎ (x ≡ a) → ⊥
       go (inl m) = f m
       go (inr e) = h (List·Memᴰ·head (sym e))
+
+  pub distinct-append : {l : List A} (r : List A) → Distinct l → Distinct r → ((x : A) → In x r → In x l → ⊥) → Distinct (l ++ r)
+  distinct-append r none k n = k
+  distinct-append r (more {x = x} {xs = xs} f t) k n =
+      more (λ m. ⊎-elim f (λ q. n x q (List·Memᴰ·head refl)) (List·Memᴰ·append-cases xs m))
+      (distinct-append r t k (λ e m q. n e m (List·Memᴰ·tail q)))
 
   -- the list without one place
   del : {x : A} {l : List A} → In x l → List A

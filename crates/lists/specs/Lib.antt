@@ -1,7 +1,12 @@
+pub mod Bools
+pub mod Fronts
+pub mod Lends
 pub mod Runs
 pub mod Same
 pub mod Distinct
 pub mod Blocks
+pub mod Zeros
+pub mod Stores
 pub mod Order
 pub mod Sort
 pub mod Sorted

@@ -1,14 +1,14 @@
 -- Runs of indices: what is tested, sought or listed over i, i + 1, .., and the laws by which a loop goes through one.
 -- Each law is stated for the k = n - i indices that a loop at i still has before it.
 use Prim.Native.Nat.{ℕ, zero, suc, _+_, _-_, _<_, _≤_}
-use mathlib.Core.Path.{_≡_, refl, sym, ap, _∙_}
+use mathlib.Core.Path.{_≡_, refl, sym, ap, ap₂, _∙_}
 use mathlib.Core.Bool.{Bool, true, false, cond, false≢true}
 use mathlib.Core.List.{List, [], _∷_}
 use native.Mathlib.Omega.{arith}
 use native.Mathlib.Decide.{ℕ-discrete}
 use native.Mathlib.Numerals.{add-one}
 use native.Mathlib.Nat.{add-zero}
-use lib.ListN.{length, getD}
+use lib.ListN.{length, getD, take}
 
 -- i, i + 1, .., i + k - 1
 unfoldable pub range : ℕ → ℕ → List ℕ
@@ -46,6 +46,11 @@ one-more i n h = omega arith
 none-left : (i n : ℕ) → n ≤ i → n - i ≡ 0
 none-left i n h = omega arith
 
+pub length-range : (i k : ℕ) → length (range i k) ≡ k
+unfolding range
+length-range i zero = refl
+length-range i (suc k) = ap suc (length-range (suc i) k)
+
 module _ (n i : ℕ) where
   pub range-more : i < n → range i (n - i) ≡ i ∷ range (i + 1) (n - (i + 1))
   unfolding range
@@ -76,6 +81,22 @@ module _ {A : Type 0} (f : ℕ → A) where
   getD-tab i (suc k) (suc j) d h =
       let e : i + suc j ≡ suc i + j = omega arith in
       rw e (getD-tab (suc i) k j d (omega arith))
+
+  -- a front
+  pub take-tab : (i m n : ℕ) → m ≤ n → take m (tab f i n) ≡ tab f i m
+  unfolding tab
+  take-tab i zero n h = refl
+  take-tab i (suc m) zero h = absurd (omega arith)
+  take-tab i (suc m) (suc n) h = ap (λ (l : List A). f i ∷ l) (take-tab (suc i) m n (omega arith))
+
+  -- all elements of a list
+  pub tab-all : (l : List A) (d : A) (i : ℕ) → ((j : ℕ) → j < length l → f (i + j) ≡ getD l j d) → tab f i (length l) ≡ l
+  unfolding tab
+  tab-all [] d i h = refl
+  tab-all (x ∷ l) d i h =
+      let z : i + 0 ≡ i = omega arith in
+      ap₂ {C = List A} (λ y ys. y ∷ ys) (ap f (sym z) ∙ h 0 (omega arith))
+      (tab-all l d (suc i) (λ j k. let s : suc i + j ≡ i + suc j = omega arith in ap f s ∙ h (suc j) (omega arith)))
 
   pub tab-more : (n i : ℕ) → i < n → tab f i (n - i) ≡ f i ∷ tab f (i + 1) (n - (i + 1))
   unfolding tab

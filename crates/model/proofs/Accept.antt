@@ -1,5 +1,5 @@
--- The parts of an accepted mount are accepted (refusals 12, 8 and 9): a part's directories begin the whole's, the losers are as many (`losers-sum`),
--- and so the counter goes no higher: max(M₁ + L₁, M₂) + L₂ ≤ max(M₁, M₂) + L₁ + L₂.
+-- The parts of an accepted mount are accepted (refusals 12, 8 and 9): a part's directories begin the whole's, the losers are as many
+-- (`losers-sum`), and so the counter goes no higher: max(M₁ + L₁, M₂) + L₂ ≤ max(M₁, M₂) + L₁ + L₂.
 use Prim.Native.Nat.{ℕ, _+_, _≤_, _<_, max}
 use native.Mathlib.Omega.{arith}
 use native.Mathlib.Nat.{zero-add}

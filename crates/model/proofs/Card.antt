@@ -27,7 +27,7 @@ module _ (K : Kit) where
   -- `worn`: as it was, or spent; `under`: no generation reaches the counter
   pub record Card (H : ℕ → Head Path) (s : M.State K) : Type 0 where
     pub worn : (i : ℕ) → i < length (s .rows) → Worn s (H i) i
-    pub under : (i : ℕ) → i < length (s .rows) → M.asks K (head (s .device) i) ≤ s .counter
+    pub under : (i : ℕ) → i < length (s .rows) → M.wants K (head (s .device) i) ≤ s .counter
     pub started : 1 ≤ s .counter
 
   step-card : (H : ℕ → Head Path) (s : M.State K) (h : Head Path) → H (length (s .rows)) ≡ h → head (s .device) (length (s .rows)) ≡ h → Card H s → Card H (M.step K s h)
@@ -62,7 +62,7 @@ module _ (K : Kit) where
           go (inl k) = inl (rw (mv .device) k)
           go (inr k) = inr (still i u (k .0), λ c. rw (mv .device) (k .1 c))
 
-      under : (i : ℕ) → Dec (i < length (s .rows)) → i < length (t .rows) → M.asks K (head (s .device) i) ≤ t .counter
+      under : (i : ℕ) → Dec (i < length (s .rows)) → i < length (t .rows) → M.wants K (head (s .device) i) ≤ t .counter
       under i (no u) l = let v = newest i u l in rw (v, q) (omega (arith, step-counter K s h))
       under i (yes u) l = omega (arith, step-counter K s h, C .under i u)
 
@@ -114,11 +114,11 @@ module _ (K : Kit) where
           go (no e) (inl k) = inl (other j e l ∙ k)
           go (no e) (inr k) = inr (gone j (k .0), λ c v. k .1 c (sym (other j e l) ∙ v))
 
-      under : (j : ℕ) → Dec (j ≡ i) → j < length (s .rows) → M.asks K (head (t .device) j) ≤ suc g
+      under : (j : ℕ) → Dec (j ≡ i) → j < length (s .rows) → M.wants K (head (t .device) j) ≤ suc g
       under j (no e) l = rw (other j e l) (omega (arith, C .under j l))
       under j (yes e) l = rw e (here (own (fine (s .device) i g) refl) (rw e at (C .under j l)))
         where
-          here : (head (t .device) i ≡ head (s .device) i) ⊎ (head (t .device) i ≡ idle g) → M.asks K (head (s .device) i) ≤ g → M.asks K (head (t .device) i) ≤ suc g
+          here : (head (t .device) i ≡ head (s .device) i) ⊎ (head (t .device) i ≡ idle g) → M.wants K (head (s .device) i) ≤ g → M.wants K (head (t .device) i) ≤ suc g
           here (inl f) a = rw f (omega arith)
           here (inr f) a = rw f (omega arith)
 

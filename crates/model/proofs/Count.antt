@@ -1,5 +1,5 @@
--- Each claim binds one more row or makes one loser (`survey-balance`), and the counter rises to what the highest header asks (`survey-counter`).
--- So mounting in two parts finds as many losers as mounting at once, and asks for no higher counter.
+-- Each claim binds one more row or makes one loser (`survey-balance`), and the counter rises to what the highest header asks
+-- (`survey-counter`). So mounting in two parts finds as many losers as mounting at once, and asks for no higher counter.
 use Prim.Native.Nat.{ℕ, zero, suc, _+_, _≤_, _<_, max}
 use native.Mathlib.Omega.{arith}
 use native.Mathlib.Nat.{add-suc, add-zero, add-assoc}
@@ -87,7 +87,7 @@ module _ (K : Kit) where
       meet (unbound g) k = omega (arith, count-snoc (s .rows) (bound c), length-append (s .losers) [])
       meet (bound d) k = rival d k (M.stands K d c)
 
-  pub step-counter : (s : M.State K) (h : Head Path) → (M.step K s h) .counter ≡ max (s .counter) (M.asks K h)
+  pub step-counter : (s : M.State K) (h : Head Path) → (M.step K s h) .counter ≡ max (s .counter) (M.wants K h)
   unfolding M.step
   step-counter s absent = refl
   step-counter s (idle g) = refl
@@ -112,7 +112,7 @@ module _ (K : Kit) where
 
     pub highest : ℕ → ℕ
     highest zero = 0
-    highest (suc n) = max (highest n) (M.asks K (H (a + n)))
+    highest (suc n) = max (highest n) (M.wants K (H (a + n)))
 
     pub claims-le : (n : ℕ) → claimsOf n ≤ n
     unfolding claimsOf claims
@@ -124,7 +124,7 @@ module _ (K : Kit) where
         at-most (idle g) = omega arith
         at-most (claim c) = omega arith
 
-    pub highest-le : (B n : ℕ) → ((i : ℕ) → a ≤ i → i < a + n → M.asks K (H i) ≤ B) → highest n ≤ B
+    pub highest-le : (B n : ℕ) → ((i : ℕ) → a ≤ i → i < a + n → M.wants K (H i) ≤ B) → highest n ≤ B
     unfolding highest
     highest-le B zero f = omega arith
     highest-le B (suc n) f = omega (arith, highest-le B n (λ i k l. f i k (omega arith)), f (a + n) (omega arith) (omega arith))
@@ -163,7 +163,7 @@ module _ (K : Kit) where
   scan-counter H zero s = omega arith
   scan-counter H (suc n) s =
       let u = M.scan K H n s in
-      let e : M.asks K (H (length (u .rows))) ≡ M.asks K (H (length (s .rows) + n)) = rw (scan-length K H n s) in
+      let e : M.wants K (H (length (u .rows))) ≡ M.wants K (H (length (s .rows) + n)) = rw (scan-length K H n s) in
       omega (arith, step-counter u (H (length (u .rows))), scan-counter H n s)
 
   pub survey-balance : (n : ℕ) (s : M.State K)

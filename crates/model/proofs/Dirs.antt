@@ -1,4 +1,5 @@
--- Directories: `register` joins two lists, and a mount's directories are the ancestors of its claims, a fold over the headers alone (`dirsOf`).
+-- Directories: `register` joins two lists, and a mount's directories are the ancestors of its claims, a fold over the headers alone
+-- (`dirsOf`).
 use Prim.Native.Nat.{ℕ, zero, suc, _+_, _≤_, _<_}
 use native.Mathlib.Omega.{arith}
 use native.Mathlib.Decide.{decLt}

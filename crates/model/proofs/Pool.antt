@@ -1,5 +1,5 @@
--- The invariant of a pool, whatever fails (`Fit`): a step keeps it, a release keeps it, and so do adopt and mount.
--- A loser is unbound as soon as it is found, so a release changes no bound row, and no other slot's header: what fails in it doesn't matter here.
+-- The invariant of a pool, whatever fails (`Fit`): a step keeps it, a release keeps it, and so do adopt and mount. A loser is unbound as
+-- soon as it is found, so a release changes no bound row, and no other slot's header: what fails in it doesn't matter here.
 use Prim.Native.Nat.{ℕ, zero, suc, _+_, _≤_, _<_}
 use native.Mathlib.Omega.{arith}
 use mathlib.Core.Path.{_≡_, refl, ap, sym, _∙_}

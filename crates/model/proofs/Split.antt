@@ -1,4 +1,5 @@
--- Two pools of the same slots over the same headers have the same files and directories: by the winner rule, and by the fold that gives the directories.
+-- Two pools of the same slots over the same headers have the same files and directories: by the winner rule, and by the fold that gives
+-- the directories.
 use Prim.Native.Nat.{ℕ, _+_, _≤_, _<_}
 use native.Mathlib.Omega.{arith}
 use native.Mathlib.Nat.{zero-add}

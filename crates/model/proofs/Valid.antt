@@ -1,4 +1,5 @@
--- Adopt keeps a pool a pool, whatever state it is called in: the rows held are taken for headers of their own (`heads`), and the pool's invariant does the rest.
+-- Adopt keeps a pool a pool, whatever state it is called in: the rows held are taken for headers of their own (`heads`), and the pool's
+-- invariant does the rest.
 use Prim.Native.Nat.{ℕ, suc, _≤_, _<_, max}
 use native.Mathlib.Omega.{arith}
 use mathlib.Core.Path.{_≡_, refl, sym}
@@ -96,7 +97,7 @@ module _ (K : Kit) where
       quiet h =
           record {
             lists = queue-more (s .queue) (s .losers) n not-queued not-lost (A .lists);
-            gens = grown (s .rows) (unbound 0) (M.asks K h) (A .gens) (omega (arith, A .started));
+            gens = grown (s .rows) (unbound 0) (M.wants K h) (A .gens) (omega (arith, A .started));
             started = omega (arith, A .started);
           }
 

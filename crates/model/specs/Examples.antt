@@ -81,7 +81,8 @@ tie : (M.mount numbers 2 disk) .rows ≡ bound (c 10 5 7) ∷ unbound 6 ∷ []
 unfolding M.mount M.adopt M.survey M.scan M.step M.find M.register M.has M.drain M.release
 tie = refl
 
--- Slot 1 loses to slot 0, and slot 0 to slot 3: both are released in this order, and slot 1, whose release fails, is neither bound nor free.
+-- Slot 1 loses to slot 0, and slot 0 to slot 3: both are released in this order, and slot 1, whose release fails, is neither bound nor
+-- free.
 one-mount : M.mount numbers 5 disk
     ≡ record {
       rows = unbound 11 ∷ unbound 10 ∷ unbound 0 ∷ bound (c 10 6 9) ∷ bound (c 25 1 0) ∷ [];
@@ -127,8 +128,9 @@ p7 : M.Accepts numbers 1 0 1 (M.empty numbers (one-idle 9223372036854775808)) �
 unfolding M.survey M.scan M.step
 p7 a = omega (arith, a .gens-fit)
 
--- Mounting again may be refused where a release failed and generations pass 2^62: three claims of one path, the highest of generation 2^63 - 3, are
--- accepted; slot 1's release fails, slot 2's spends generation 2^63 - 1; slot 1 loses again, and there is no generation left for it.
+-- Mounting again may be refused where a release failed and generations pass 2^62: three claims of one path, the highest of generation
+-- 2^63 - 3, are accepted; slot 1's release fails, slot 2's spends generation 2^63 - 1; slot 1 loses again, and there is no generation
+-- left for it.
 abbrev three : Disk
 three = record { heads = claim (c 10 9223372036854775805 0) ∷ claim (c 10 1 0) ∷ claim (c 10 1 0) ∷ []; plan = false ∷ [] }
 

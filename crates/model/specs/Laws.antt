@@ -1,4 +1,5 @@
--- Laws of the model that a loop over rows, over slots or over losers needs: what the search comes to, what a claim's step does, one more release.
+-- Laws of the model that a loop over rows, over slots or over losers needs: what the search comes to, what a claim's step does, one more
+-- release.
 use Prim.Native.Nat.{ℕ, zero, suc, _+_, _≤_, _<_}
 use native.Mathlib.Omega.{arith}
 use native.Mathlib.Nat.{add-zero, zero-add}

@@ -15,7 +15,8 @@ pub record Claim (Path : Type 0) : Type 0 where
   pub gen : ℕ
   pub len : ℕ
 
--- A slot's decoded header: none that is valid; a valid one that claims nothing (not in use, or of an empty path), with its generation; or a claim.
+-- A slot's decoded header: none that is valid; a valid one that claims nothing (not in use, or of an empty path), with its generation; or
+-- a claim.
 pub data Head (Path : Type 0) : Type 0 where
   absent : Head Path
   idle : ℕ → Head Path
@@ -55,7 +56,8 @@ pub record Kit : Type 1 where
   -- and whether all succeeded
   pub free : Device → ℕ → ℕ → Device
   pub fine : Device → ℕ → ℕ → Bool
-  -- the shape stays, and other slots keep their headers; where all succeeded the slot's own header is free; where one failed it is free, or as before
+  -- the shape stays, and other slots keep their headers; where all succeeded the slot's own header is free; where one failed it is free,
+  -- or as before
   pub has-free : (w : Device) (n i g : ℕ) → Has w n → i < n → Has (free w i g) n
   pub keeps : (w : Device) (n i g j : ℕ) → Has w n → i < n → j < n → j ≢ i → head (free w i g) j ≡ head w j
   pub frees : (w : Device) (n i g : ℕ) → Has w n → i < n → g < 2 ^ 63 → fine w i g ≡ true → head (free w i g) i ≡ idle g
@@ -64,7 +66,8 @@ pub record Kit : Type 1 where
 module _ (K : Kit) where
   open Kit K using (Path, same, Dir, eqDir, ancestors, Device, head, seen, free, fine)
 
-  -- The pool: a row for each slot held, the free queue, the losers that the last mount or adopt found, the directories, the counter, and the device.
+  -- The pool: a row for each slot held, the free queue, the losers that the last mount or adopt found, the directories, the counter, and
+  -- the device.
   pub record State : Type 0 where
     pub rows : List (Row Path)
     pub queue : List ℕ
@@ -100,11 +103,11 @@ module _ (K : Kit) where
   register ds [] = ds
   register ds (e ∷ es) = register (cond (has e ds) ds (ds ++ (e ∷ []))) es
 
-  -- "Counter .. exceeds every valid header's generation": what a header asks of the counter.
-  abbrev pub asks : Head Path → ℕ
-  asks absent = 0
-  asks (idle g) = suc g
-  asks (claim c) = suc (c .gen)
+  -- "Counter .. exceeds every valid header's generation": what a header wants of the counter.
+  abbrev pub wants : Head Path → ℕ
+  wants absent = 0
+  wants (idle g) = suc g
+  wants (claim c) = suc (c .gen)
 
   -- The newest slot claims nothing: "Non-claims join the queue by index".
   abbrev pub spare : State → Head Path → State
@@ -114,7 +117,7 @@ module _ (K : Kit) where
         queue = s .queue ++ (length (s .rows) ∷ []);
         losers = s .losers;
         dirs = s .dirs;
-        counter = max (s .counter) (asks h);
+        counter = max (s .counter) (wants h);
         device = s .device;
       }
 
@@ -193,8 +196,8 @@ module _ (K : Kit) where
   unfoldable pub mount : ℕ → Device → State
   mount n w = adopt n (empty w)
 
-  -- Adopting n more slots isn't refused, for `slots` slots, which rows and device both have, and `dirRows` directory rows: the refusals 12, 8 and 9 of 01, "Numbers that come back".
-  -- (10 comes from a header read that fails; `seen` has none.)
+  -- Adopting n more slots isn't refused, for `slots` slots, which rows and device both have, and `dirRows` directory rows: the refusals
+  -- 12, 8 and 9 of 01, "Numbers that come back". (10 comes from a header read that fails; `seen` has none.)
   pub record Accepts (slots dirRows n : ℕ) (s : State) : Type 0 where
     pub slots-fit : length (s .rows) + n ≤ slots
     pub dirs-fit : length ((survey n s) .dirs) ≤ dirRows

@@ -1,6 +1,6 @@
--- What mount and adopt promise. The demand: "Each path claimed by a valid in-use header goes to its highest generation, lowest slot on a tie;
--- mounting n slots and adopting the rest equals one mount, whatever writes, flushes or truncates fail; mounting again gives the same."
--- The statements stand here; proofs/Theorem.antt proves each, for every kit.
+-- What mount and adopt promise. The demand: "Each path claimed by a valid in-use header goes to its highest generation, lowest slot on a
+-- tie; mounting n slots and adopting the rest equals one mount, whatever writes, flushes or truncates fail; mounting again gives the
+-- same." The statements stand here; proofs/Theorem.antt proves each, for every kit.
 use Prim.Native.Nat.{ℕ, _+_, _≤_, _<_, _^_}
 use mathlib.Core.Path.{_≡_}
 use mathlib.Core.Logic.{_↔_}
@@ -38,9 +38,10 @@ module _ (K : Kit) where
 
   -- The valid headers among the first n have generations below 2^62.
   unfoldable pub Below62 : (ℕ → Head Path) → ℕ → Type 0
-  Below62 H n = (i : ℕ) → i < n → M.asks K (H i) ≤ 2 ^ 62
+  Below62 H n = (i : ℕ) → i < n → M.wants K (H i) ≤ 2 ^ 62
 
-  -- "Mounting again gives the same": the device of the pool s, mounted once more over the same rows, is accepted and gives s's files, directories and free slots.
+  -- "Mounting again gives the same": the device of the pool s, mounted once more over the same rows, is accepted and gives s's files,
+  -- directories and free slots.
   pub record Again (slots dirRows k : ℕ) (s : M.State K) : Type 0 where
     pub accepted : M.Accepts K slots dirRows k (M.empty K (s .device))
     pub files : SameFiles s (M.mount K k (s .device))
@@ -53,12 +54,12 @@ module _ (K : Kit) where
     whole = M.mount K (n + m) one
 
     -- the first n slots of the second device
-    abbrev pub part : M.State K
-    part = M.mount K n two
+    abbrev pub firstPart : M.State K
+    firstPart = M.mount K n two
 
     -- and the other m adopted
     abbrev pub both : M.State K
-    both = M.adopt K m part
+    both = M.adopt K m firstPart
 
     -- What is promised of the two, over `slots` slots and `dirRows` directory rows.
     pub record Kept (slots dirRows : ℕ) : Type 0 where
@@ -68,22 +69,23 @@ module _ (K : Kit) where
       -- 01: "Ancestors of every claim are registered", after either.
       pub registered-whole : Registered K (head one) (n + m) (whole .dirs)
       pub registered-both : Registered K (head one) (n + m) (both .dirs)
-      -- "Mounting n slots and adopting the rest equals one mount, whatever writes, flushes or truncates fail": both parts are accepted, and give the
-      -- same files and the same directories, even in order. No premise speaks of what fails.
+      -- "Mounting n slots and adopting the rest equals one mount, whatever writes, flushes or truncates fail": both parts are accepted,
+      -- and give the same files and the same directories, even in order. No premise speaks of what fails.
       pub part-accepted : M.Accepts K slots dirRows n (M.empty K two)
-      pub both-accepted : M.Accepts K slots dirRows m part
+      pub both-accepted : M.Accepts K slots dirRows m firstPart
       pub files : SameFiles both whole
       pub dirs : both .dirs ≡ whole .dirs
       -- Where none fails the free slots are the same too. (A slot whose release failed is neither bound nor free.)
-      pub free : NoneFails (n + m) (M.empty K one) → NoneFails n (M.empty K two) → NoneFails m part → SameFree both whole
+      pub free : NoneFails (n + m) (M.empty K one) → NoneFails n (M.empty K two) → NoneFails m firstPart → SameFree both whole
       -- "Mounting again gives the same", after either, where none failed.
       pub again-whole : NoneFails (n + m) (M.empty K one) → Again slots dirRows (n + m) whole
-      pub again-both : NoneFails n (M.empty K two) → NoneFails m part → Again slots dirRows (n + m) both
+      pub again-both : NoneFails n (M.empty K two) → NoneFails m firstPart → Again slots dirRows (n + m) both
 
   -- THE DEMAND, for any two plans. Its premises, and why each is there:
   -- - header reads neither fail nor are cut short (in the kit: `seen` moves the plan's place and leaves every header): a slot whose header
   --   isn't seen is taken as free by the one and as a claim by the other;
-  -- - both devices have the right shape, and equal headers in the slots that are mounted. All else may differ, so the plans may make other calls fail;
+  -- - both devices have the right shape, and equal headers in the slots that are mounted. All else may differ, so the plans may make other
+  --   calls fail;
   -- - valid generations are below 2^62;
   -- - one mount of all slots over the same rows is accepted: else there is nothing to compare with.
   unfoldable pub Demand : Type 0
@@ -101,7 +103,8 @@ module _ (K : Kit) where
       → Kept n m one two slots dirRows
 
   -- More than was asked: files and directories are the same at the next mount even where releases failed, since a failed release leaves
-  -- the old claim, which loses again, or a free header. Its acceptance does need generations below 2^62 (specs/Examples.antt, `again-refused`).
+  -- the old claim, which loses again, or a free header. Its acceptance does need generations below 2^62 (specs/Examples.antt,
+  -- `again-refused`).
   pub record Returns (slots dirRows k : ℕ) (w : Device) (s : M.State K) : Type 0 where
     pub files : SameFiles s (M.mount K k (s .device))
     pub dirs : SameDirs s (M.mount K k (s .device))

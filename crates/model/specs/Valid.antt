@@ -1,5 +1,5 @@
--- A pool, as far as the model has it (01, "A pool: .."; sizes, text and normal spelling are matters of the rows themselves), and that mount makes one
--- and adopt keeps one, whatever fails. The statements stand here; proofs/Valid.antt proves them, for every kit.
+-- A pool, as far as the model has it (01, "A pool: .."; sizes, text and normal spelling are matters of the rows themselves), and that
+-- mount makes one and adopt keeps one, whatever fails. The statements stand here; proofs/Valid.antt proves them, for every kit.
 use Prim.Native.Nat.{ℕ, _≤_, _<_, _^_}
 use mathlib.Core.Path.{_≡_}
 use mathlib.Core.Logic.{_≢_}

@@ -22,6 +22,7 @@ use Rattle.table.specs.State.{State, Valid, Bufs, bufs, view, poolOf, flat, IsP
 use Rattle.table.specs.Laws.{pool-canon, pool-rows, pool-dirs, queue-fits, queue-few, together}
 use Rattle.steps.specs.World.{World, world, Lent, lent, viewW, flatW, Fit, Ready}
 use Rattle.steps.specs.Laws.{world-is, ready-fit, lent-stays}
+use Rattle.steps.specs.Outcome.{only, flatO}
 use Rattle.survey.specs.Staged.{claimed, spares, vacated}
 use Rattle.survey.specs.Laws.{scan-rows, scan-length, scan-free, scan-dirs, asked-room, asked-over, asked-same}
 use Rattle.install.specs.Install.{refusal, Three, three, Taken, unstaged, pushedAll, holding}
@@ -30,39 +31,39 @@ use Rattle.survey.specs.Heads.{Head, Reads, readsM}
 use Rattle.survey.specs.Survey.{Survey, survey, scan}
 use Rattle.survey.specs.Claims.{rowOf, askedOf, losersOf}
 use Rattle.survey.specs.Losers.{scan-losers}
-use Rattle.mount.specs.Mount.{Came, came, Done, done, flatC, begin, installed, drain, moved, settle, afterReads, tooMany, adoptM}
+use Rattle.mount.specs.Mount.{begin, installed, drain, Due, moved, settle, afterReads, tooMany, adoptM}
 use Rattle.mount.specs.Keeps.{reads-fine, Keeps}
-use Rattle.mount.specs.Laws.{Due, room-for, scanned, installed-fit, losers-due}
+use Rattle.mount.specs.Laws.{room-for, scanned, installed-fit, losers-due}
 
 -- ---- 8, 9, or done
 
-refusal-settles : (plan : List ℕ) (g : Geometry) (v : Survey) (w : World) (o : ℕ) → o ≡ refusal (w .state .dirCap) (v .dirs) (v .counter) (length (v .losers)) → (o ≡ 0 → ⊥) → settle plan g v w ≡ came o w
+refusal-settles : (plan : List ℕ) (g : Geometry) (v : Survey) (w : World) (o : ℕ) → o ≡ refusal (w .state .chosen .«dir_rows») (v .dirs) (v .counter) (length (v .losers)) → (o ≡ 0 → ⊥) → settle plan g v w ≡ only o w
 unfolding settle refusal
-refusal-settles plan g v w o e ne = eight (ltb (w .state .dirCap) (length (v .dirs))) e
+refusal-settles plan g v w o e ne = eight (ltb (w .state .chosen .«dir_rows») (length (v .dirs))) e
   where
-    nine : (t : Bool) → o ≡ cond t 9 0 → cond t (came 9 w) (came 0 (drain plan g (v .losers) (world (w .dev) (installed (w .state) v)))) ≡ came o w
+    nine : (t : Bool) → o ≡ cond t 9 0 → cond t (only 9 w) (only 0 (drain plan g (v .losers) (world (w .dev) (installed (w .state) v)))) ≡ only o w
     nine true q = rw q
     nine false q = absurd (ne q)
 
     eight : (t : Bool) → o ≡ cond t 8 (cond (ltb (2 ^ 63) (v .counter + length (v .losers))) 9 0)
-        → cond t (came 8 w) (cond (ltb (2 ^ 63) (v .counter + length (v .losers))) (came 9 w) (came 0 (drain plan g (v .losers) (world (w .dev) (installed (w .state) v))))) ≡ came o w
+        → cond t (only 8 w) (cond (ltb (2 ^ 63) (v .counter + length (v .losers))) (only 9 w) (only 0 (drain plan g (v .losers) (world (w .dev) (installed (w .state) v))))) ≡ only o w
     eight true q = rw q
     eight false q = nine (ltb (2 ^ 63) (v .counter + length (v .losers))) q
 
-accepted-settles : (plan : List ℕ) (g : Geometry) (v : Survey) (w : World) → 0 ≡ refusal (w .state .dirCap) (v .dirs) (v .counter) (length (v .losers))
-    → (settle plan g v w ≡ came 0 (drain plan g (v .losers) (world (w .dev) (installed (w .state) v)))) × (length (v .dirs) ≤ w .state .dirCap) × (v .counter + length (v .losers) ≤ 2 ^ 63)
+accepted-settles : (plan : List ℕ) (g : Geometry) (v : Survey) (w : World) → 0 ≡ refusal (w .state .chosen .«dir_rows») (v .dirs) (v .counter) (length (v .losers))
+    → (settle plan g v w ≡ only 0 (drain plan g (v .losers) (world (w .dev) (installed (w .state) v)))) × (length (v .dirs) ≤ w .state .chosen .«dir_rows») × (v .counter + length (v .losers) ≤ 2 ^ 63)
 unfolding settle refusal
-accepted-settles plan g v w e = eight (ltb (w .state .dirCap) (length (v .dirs))) refl e
+accepted-settles plan g v w e = eight (ltb (w .state .chosen .«dir_rows») (length (v .dirs))) refl e
   where
-    nine : (t : Bool) → ltb (2 ^ 63) (v .counter + length (v .losers)) ≡ t → _≡_ {A = ℕ} 0 (cond t 9 0) → length (v .dirs) ≤ w .state .dirCap
-        → (cond t (came 9 w) (came 0 (drain plan g (v .losers) (world (w .dev) (installed (w .state) v)))) ≡ came 0 (drain plan g (v .losers) (world (w .dev) (installed (w .state) v))))
-        × (length (v .dirs) ≤ w .state .dirCap) × (v .counter + length (v .losers) ≤ 2 ^ 63)
+    nine : (t : Bool) → ltb (2 ^ 63) (v .counter + length (v .losers)) ≡ t → _≡_ {A = ℕ} 0 (cond t 9 0) → length (v .dirs) ≤ w .state .chosen .«dir_rows»
+        → (cond t (only 9 w) (only 0 (drain plan g (v .losers) (world (w .dev) (installed (w .state) v)))) ≡ only 0 (drain plan g (v .losers) (world (w .dev) (installed (w .state) v))))
+        × (length (v .dirs) ≤ w .state .chosen .«dir_rows») × (v .counter + length (v .losers) ≤ 2 ^ 63)
     nine true f q h = absurd (omega arith)
     nine false f q h = (refl, h, ltb-false _ _ f)
 
-    eight : (t : Bool) → ltb (w .state .dirCap) (length (v .dirs)) ≡ t → _≡_ {A = ℕ} 0 (cond t 8 (cond (ltb (2 ^ 63) (v .counter + length (v .losers))) 9 0))
-        → (cond t (came 8 w) (cond (ltb (2 ^ 63) (v .counter + length (v .losers))) (came 9 w) (came 0 (drain plan g (v .losers) (world (w .dev) (installed (w .state) v))))) ≡ came 0 (drain plan g (v .losers) (world (w .dev) (installed (w .state) v))))
-        × (length (v .dirs) ≤ w .state .dirCap) × (v .counter + length (v .losers) ≤ 2 ^ 63)
+    eight : (t : Bool) → ltb (w .state .chosen .«dir_rows») (length (v .dirs)) ≡ t → _≡_ {A = ℕ} 0 (cond t 8 (cond (ltb (2 ^ 63) (v .counter + length (v .losers))) 9 0))
+        → (cond t (only 8 w) (cond (ltb (2 ^ 63) (v .counter + length (v .losers))) (only 9 w) (only 0 (drain plan g (v .losers) (world (w .dev) (installed (w .state) v))))) ≡ only 0 (drain plan g (v .losers) (world (w .dev) (installed (w .state) v))))
+        × (length (v .dirs) ≤ w .state .chosen .«dir_rows») × (v .counter + length (v .losers) ≤ 2 ^ 63)
     eight true f q = absurd (omega arith)
     eight false f q = nine (ltb (2 ^ 63) (v .counter + length (v .losers))) refl q (ltb-false _ _ f)
 
@@ -94,57 +95,57 @@ module _ (plan : List ℕ) (g : Geometry) (k : ℕ) (l : Lent) (R : Ready g l) w
   v = scan (r .heads) start
 
   -- 12
-  many-rows : b .pool .rows - n < k → tooMany k (viewW l) ≡ true
+  many-rows : b .pool .chosen .rows - n < k → tooMany k (viewW l) ≡ true
   unfolding tooMany viewW view
-  many-rows h = rw (length-rows (b .nums) (b .names) n, lt-ltb (b .pool .rows - n) k h)
+  many-rows h = rw (length-rows (b .nums) (b .names) n, lt-ltb (b .pool .chosen .rows - n) k h)
 
   many-slots : length (l .dev .phys) - n < k → tooMany k (viewW l) ≡ true
   unfolding tooMany viewW view
-  many-slots h = rw (length-rows (b .nums) (b .names) n, lt-ltb (length (l .dev .phys) - n) k h) (either (ltb (b .pool .rows - n) k))
+  many-slots h = rw (length-rows (b .nums) (b .names) n, lt-ltb (length (l .dev .phys) - n) k h) (either (ltb (b .pool .chosen .rows - n) k))
     where
       either : (t : Bool) → (t || true) ≡ true
       either true = refl
       either false = refl
 
-  not-many : k ≤ b .pool .rows - n → k ≤ length (l .dev .phys) - n → tooMany k (viewW l) ≡ false
+  not-many : k ≤ b .pool .chosen .rows - n → k ≤ length (l .dev .phys) - n → tooMany k (viewW l) ≡ false
   unfolding tooMany viewW view
-  not-many h i = rw (length-rows (b .nums) (b .names) n, le-ltb (b .pool .rows - n) k h, le-ltb (length (l .dev .phys) - n) k i)
+  not-many h i = rw (length-rows (b .nums) (b .names) n, le-ltb (b .pool .chosen .rows - n) k h, le-ltb (length (l .dev .phys) - n) k i)
 
-  twelve : tooMany k (viewW l) ≡ true → done 12 l ≡ flatC (adoptM plan g k (viewW l))
-  unfolding adoptM
-  twelve t = rw t (ap (done 12) (lent-stays l (R .pool)))
+  twelve : tooMany k (viewW l) ≡ true → only 12 l ≡ flatO (adoptM plan g k (viewW l))
+  unfolding adoptM flatO
+  twelve t = rw t (ap (only 12) (lent-stays l (R .pool)))
 
-  pub twelve-rows : b .pool .rows - n < k → done 12 l ≡ flatC (adoptM plan g k (viewW l))
+  pub twelve-rows : b .pool .chosen .rows - n < k → only 12 l ≡ flatO (adoptM plan g k (viewW l))
   twelve-rows h = twelve (many-rows h)
 
-  pub twelve-slots : length (l .dev .phys) - n < k → done 12 l ≡ flatC (adoptM plan g k (viewW l))
+  pub twelve-slots : length (l .dev .phys) - n < k → only 12 l ≡ flatO (adoptM plan g k (viewW l))
   twelve-slots h = twelve (many-slots h)
 
   -- what the staging needs
-  pub stage-fits : k ≤ b .pool .rows - n → k ≤ length (l .dev .phys) - n
-      → (Shape g (l .dev .bytes) (l .dev .phys) × Flat (b .pool .rows) n (b .nums) (b .names)) × ((n + k ≤ b .pool .rows) × (n + k ≤ length (l .dev .phys)))
+  pub stage-fits : k ≤ b .pool .chosen .rows - n → k ≤ length (l .dev .phys) - n
+      → (Shape g (l .dev .bytes) (l .dev .phys) × Flat (b .pool .chosen .rows) n (b .nums) (b .names)) × ((n + k ≤ b .pool .chosen .rows) × (n + k ≤ length (l .dev .phys)))
   stage-fits h i = ((R .shape, pool-rows b (R .pool)), (omega (arith, pool-rows b (R .pool) .few), omega (arith, R .slots)))
 
-  module _ (h : k ≤ b .pool .rows - n) (i : k ≤ length (l .dev .phys) - n) (p : Place) (pe : p ≡ r .place) where
+  module _ (h : k ≤ b .pool .chosen .rows - n) (i : k ≤ length (l .dev .phys) - n) (p : Place) (pe : p ≡ r .place) where
     goes : adoptM plan g k (viewW l) ≡ afterReads plan g r (viewW l)
     unfolding adoptM viewW view
     goes = rw (not-many h i, length-rows (b .nums) (b .names) n)
 
     -- the buffers stay, and the place has moved
     stays : (o : ℕ) (l₁ s₁ d₁ : List ℕ) → l₁ ≡ b .nums → s₁ ≡ b .names → d₁ ≡ b .dirs
-        → done o (lent (dev (l .dev .bytes) (l .dev .phys) p) (bufs (b .pool) l₁ s₁ d₁)) ≡ flatC (came o (moved (r .place) (viewW l)))
-    unfolding viewW flatW
-    stays o l₁ s₁ d₁ x y z = rw (x, y, z, pe) (ap (λ (c : Bufs). done o (lent (dev (l .dev .bytes) (l .dev .phys) (r .place)) c)) (sym (R .pool .canon)))
+        → only o (lent (dev (l .dev .bytes) (l .dev .phys) p) (bufs (b .pool) l₁ s₁ d₁)) ≡ flatO (only o (moved (r .place) (viewW l)))
+    unfolding viewW flatW flatO
+    stays o l₁ s₁ d₁ x y z = rw (x, y, z, pe) (ap (λ (c : Bufs). only o (lent (dev (l .dev .bytes) (l .dev .phys) (r .place)) c)) (sym (R .pool .canon)))
 
     -- 10
     pub ten : (l₁ s₁ : List ℕ) (f : Bool) → f ≡ r .failed → f ≡ true → (f ≡ true → (l₁ ≡ b .nums) × (s₁ ≡ b .names))
-        → done 10 (lent (dev (l .dev .bytes) (l .dev .phys) p) (bufs (b .pool) l₁ s₁ (b .dirs))) ≡ flatC (adoptM plan g k (viewW l))
+        → only 10 (lent (dev (l .dev .bytes) (l .dev .phys) p) (bufs (b .pool) l₁ s₁ (b .dirs))) ≡ flatO (adoptM plan g k (viewW l))
     unfolding afterReads
     ten l₁ s₁ f fe t q =
         let e : r .failed ≡ true = sym fe ∙ t in
-        stays 10 l₁ s₁ (b .dirs) (q t .0) (q t .1) refl ∙ ap flatC (sym (goes ∙ rw e))
+        stays 10 l₁ s₁ (b .dirs) (q t .0) (q t .1) refl ∙ ap flatO (sym (goes ∙ rw e))
 
-    module _ (ok : r .failed ≡ false) (l₁ s₁ : List ℕ) (S : rowsOf l₁ s₁ (n + k) ≡ rs ++ map rowOf (r .heads)) (F : Flat (b .pool .rows) (n + k) l₁ s₁) where
+    module _ (ok : r .failed ≡ false) (l₁ s₁ : List ℕ) (S : rowsOf l₁ s₁ (n + k) ≡ rs ++ map rowOf (r .heads)) (F : Flat (b .pool .chosen .rows) (n + k) l₁ s₁) where
       abbrev staged : List Row
       staged = rowsOf l₁ s₁ (n + k)
 
@@ -172,12 +173,12 @@ module _ (plan : List ℕ) (g : Geometry) (k : ℕ) (l : Lent) (R : Ready g l) w
 
       small : n + k ≤ 64
       unfolding view
-      small = omega (arith, F .few, R .pool .valid .small)
+      small = omega (arith, F .few, R .pool .valid .counts .small)
 
       -- what finding the losers needs
-      pub find-fits : Flat (b .pool .rows) (n + k) l₁ s₁ × (n ≤ n + k) × (b .pool .rows ≤ 64)
+      pub find-fits : Flat (b .pool .chosen .rows) (n + k) l₁ s₁ × (n ≤ n + k) × (b .pool .chosen .rows ≤ 64)
       unfolding view
-      find-fits = (F, omega arith, R .pool .valid .small)
+      find-fits = (F, omega arith, R .pool .valid .counts .small)
 
       module _ (list : List ℕ) (count : ℕ) (le : list ≡ pad 64 (losersOf n staged)) (ce : count ≡ length (losersOf n staged)) (few : count ≤ n + k - n) where
         listed : take count list ≡ v .losers
@@ -186,29 +187,29 @@ module _ (plan : List ℕ) (g : Geometry) (k : ℕ) (l : Lent) (R : Ready g l) w
         counted : count ≡ length (v .losers)
         counted = ce ∙ ap length losers-are
 
-        pub accept-fits : Flat (b .pool .rows) (n + k) l₁ s₁ × FlatDirs (b .pool .«dir_rows») (b .pool .dirs) (b .dirs) × (n ≤ n + k) × (count ≤ 64)
+        pub accept-fits : Flat (b .pool .chosen .rows) (n + k) l₁ s₁ × FlatDirs (b .pool .chosen .«dir_rows») (b .pool .dirs) (b .dirs) × (n ≤ n + k) × (count ≤ 64)
         accept-fits = (F, pool-dirs b (R .pool), omega arith, omega (arith, small))
 
         module _ (asked counter : ℕ) (ae : asked ≡ askedOf (r .heads)) (ke : counter ≡ max (b .pool .counter) asked)
-            (o : ℕ) (oe : o ≡ refusal (b .pool .«dir_rows») (claimed (drop n staged) (dirsOf (b .dirs) (b .pool .dirs))) counter count) where
-          out-is : o ≡ refusal (b .pool .«dir_rows») (v .dirs) (v .counter) (length (v .losers))
-          out-is = oe ∙ rw (dirs-are, counted, ke, ae) (refusal-cut (b .pool .«dir_rows») (v .dirs) (r .heads) rs (dirsOf (b .dirs) (b .pool .dirs)) (b .pool .counter) (length (v .losers)))
+            (o : ℕ) (oe : o ≡ refusal (b .pool .chosen .«dir_rows») (claimed (drop n staged) (dirsOf (b .dirs) (b .pool .dirs))) counter count) where
+          out-is : o ≡ refusal (b .pool .chosen .«dir_rows») (v .dirs) (v .counter) (length (v .losers))
+          out-is = oe ∙ rw (dirs-are, counted, ke, ae) (refusal-cut (b .pool .chosen .«dir_rows») (v .dirs) (r .heads) rs (dirsOf (b .dirs) (b .pool .dirs)) (b .pool .counter) (length (v .losers)))
 
           -- 8 or 9
-          pub refused : (l₂ s₂ d₂ : List ℕ) → (o ≡ 0 → ⊥) → ((o ≡ 0 → ⊥) → three l₂ s₂ d₂ ≡ unstaged (b .pool .rows) n (n + k) (three l₁ s₁ (b .dirs)))
-              → done o (lent (dev (l .dev .bytes) (l .dev .phys) p) (bufs (b .pool) l₂ s₂ d₂)) ≡ flatC (adoptM plan g k (viewW l))
+          pub refused : (l₂ s₂ d₂ : List ℕ) → (o ≡ 0 → ⊥) → ((o ≡ 0 → ⊥) → three l₂ s₂ d₂ ≡ unstaged (b .pool .chosen .rows) n (n + k) (three l₁ s₁ (b .dirs)))
+              → only o (lent (dev (l .dev .bytes) (l .dev .phys) p) (bufs (b .pool) l₂ s₂ d₂)) ≡ flatO (adoptM plan g k (viewW l))
           unfolding unstaged viewW view
           refused l₂ s₂ d₂ ne q =
               let F₀ = pool-rows b (R .pool) in
               stays o l₂ s₂ d₂
-              (ap (λ (t : Three). t .nums) (q ne) ∙ ap (flatNums (b .pool .rows)) old-rows ∙ F₀ .nums)
-              (ap (λ (t : Three). t .names) (q ne) ∙ ap (flatNames (b .pool .rows)) old-rows ∙ F₀ .names)
+              (ap (λ (t : Three). t .nums) (q ne) ∙ ap (flatNums (b .pool .chosen .rows)) old-rows ∙ F₀ .nums)
+              (ap (λ (t : Three). t .names) (q ne) ∙ ap (flatNames (b .pool .chosen .rows)) old-rows ∙ F₀ .names)
               (ap (λ (t : Three). t .dirs) (q ne))
-              ∙ ap flatC (sym (settles ∙ refusal-settles plan g v (moved (r .place) (viewW l)) o out-is ne))
+              ∙ ap flatO (sym (settles ∙ refusal-settles plan g v (moved (r .place) (viewW l)) o out-is ne))
 
           module _ (zero : o ≡ 0) (e : ℕ) (l₂ s₂ d₂ : List ℕ)
-              (T : o ≡ 0 → Taken (b .pool .«dir_rows») (claimed (drop n staged) (dirsOf (b .dirs) (b .pool .dirs))) e (three l₁ s₁ (b .dirs)) (three l₂ s₂ d₂)) where
-            taken : Taken (b .pool .«dir_rows») (claimed (drop n staged) (dirsOf (b .dirs) (b .pool .dirs))) e (three l₁ s₁ (b .dirs)) (three l₂ s₂ d₂)
+              (T : o ≡ 0 → Taken (b .pool .chosen .«dir_rows») (claimed (drop n staged) (dirsOf (b .dirs) (b .pool .dirs))) e (three l₁ s₁ (b .dirs)) (three l₂ s₂ d₂)) where
+            taken : Taken (b .pool .chosen .«dir_rows») (claimed (drop n staged) (dirsOf (b .dirs) (b .pool .dirs))) e (three l₁ s₁ (b .dirs)) (three l₂ s₂ d₂)
             taken = T zero
 
             nums-same : l₂ ≡ l₁
@@ -217,8 +218,8 @@ module _ (plan : List ℕ) (g : Geometry) (k : ℕ) (l : Lent) (R : Ready g l) w
             names-same : s₂ ≡ s₁
             names-same = ap (λ (t : Three). t .names) (taken .rows)
 
-            done-is : (settle plan g v (moved (r .place) (viewW l)) ≡ came 0 (drain plan g (v .losers) (world (moved (r .place) (viewW l) .dev) (installed (viewW l .state) v))))
-                × (length (v .dirs) ≤ b .pool .«dir_rows») × (v .counter + length (v .losers) ≤ 2 ^ 63)
+            done-is : (settle plan g v (moved (r .place) (viewW l)) ≡ only 0 (drain plan g (v .losers) (world (moved (r .place) (viewW l) .dev) (installed (viewW l .state) v))))
+                × (length (v .dirs) ≤ b .pool .chosen .«dir_rows») × (v .counter + length (v .losers) ≤ 2 ^ 63)
             unfolding viewW view
             done-is = accepted-settles plan g v (moved (r .place) (viewW l)) (sym zero ∙ out-is)
 
@@ -242,7 +243,7 @@ module _ (plan : List ℕ) (g : Geometry) (k : ℕ) (l : Lent) (R : Ready g l) w
             due = losers-due (view b) v (R .pool .valid) keeps (omega (arith, many, F .few)) (done-is .1) (dev (l .dev .bytes) (l .dev .phys) (r .place)) (done-is .2)
 
             -- what installing needs
-            pub install-fits : (Flat (b .pool .rows) (n + k) l₂ s₂ × (n ≤ n + k) × (n + k ≤ 64) × (b .pool .free ≤ n)) × ((count ≤ 64) × ((x : ℕ) → In x (take count list) → x < n + k))
+            pub install-fits : (Flat (b .pool .chosen .rows) (n + k) l₂ s₂ × (n ≤ n + k) × (n + k ≤ 64) × (b .pool .free ≤ n)) × ((count ≤ 64) × ((x : ℕ) → In x (take count list) → x < n + k))
             unfolding installed poolOf view
             install-fits =
                 let f : length (view b .queue) ≡ b .pool .free = ap (λ (q : Pool). q .free) (pool-canon b (R .pool)) in (
@@ -251,7 +252,7 @@ module _ (plan : List ℕ) (g : Geometry) (k : ℕ) (l : Lent) (R : Ready g l) w
                 )
 
             module _ (q : Pool) (l₃ s₃ : List ℕ) (qe : q ≡ holding (n + k) e counter (pushedAll (spares n (drop n (rowsOf l₂ s₂ (n + k)))) (b .pool)))
-                (S₃ : rowsOf l₃ s₃ (n + k) ≡ vacated (take count list) (rowsOf l₂ s₂ (n + k))) (F₃ : Flat (b .pool .rows) (n + k) l₃ s₃) where
+                (S₃ : rowsOf l₃ s₃ (n + k) ≡ vacated (take count list) (rowsOf l₂ s₂ (n + k))) (F₃ : Flat (b .pool .chosen .rows) (n + k) l₃ s₃) where
               same-rows : rowsOf l₂ s₂ (n + k) ≡ staged
               same-rows = ap₂ (λ (x y : List ℕ). rowsOf x y (n + k)) nums-same names-same
 
@@ -275,10 +276,10 @@ module _ (plan : List ℕ) (g : Geometry) (k : ℕ) (l : Lent) (R : Ready g l) w
               unfolding poolOf installed view
               held-flat =
                   let x : q .held ≡ n + k = ap (λ (t : Pool). t .held) record-is ∙ many in
-                  let c : q .rows ≡ b .pool .rows = ap (λ (t : Pool). t .rows) record-is in
+                  let c : q .chosen .rows ≡ b .pool .chosen .rows = ap (λ (t : Pool). t .chosen .rows) record-is in
                   let y : q .dirs ≡ length (v .dirs) = ap (λ (t : Pool). t .dirs) record-is in
-                  let d : q .«dir_rows» ≡ b .pool .«dir_rows» = ap (λ (t : Pool). t .«dir_rows») record-is in
-                  let G = dirs-of (b .pool .«dir_rows») (length (v .dirs)) (v .dirs) d₂ refl (done-is .1) (fit .valid .dirs-short) (ap (λ (t : Three). t .dirs) (taken .rows) ∙ ap (flatDirs (b .pool .«dir_rows»)) dirs-are) in
+                  let d : q .chosen .«dir_rows» ≡ b .pool .chosen .«dir_rows» = ap (λ (t : Pool). t .chosen .«dir_rows») record-is in
+                  let G = dirs-of (b .pool .chosen .«dir_rows») (length (v .dirs)) (v .dirs) d₂ refl (done-is .1) (fit .valid .directories .short) (ap (λ (t : Three). t .dirs) (taken .rows) ∙ ap (flatDirs (b .pool .chosen .«dir_rows»)) dirs-are) in
                   together (installed (view b) v) q l₃ s₃ d₂ record-is (ap (rowsOf l₃ s₃) x ∙ rows-are) (rw (c, x) F₃) (ap (dirsOf d₂) y ∙ G .0) (rw (d, y) (G .1))
 
               abbrev now : Lent
@@ -296,7 +297,7 @@ module _ (plan : List ℕ) (g : Geometry) (k : ℕ) (l : Lent) (R : Ready g l) w
               drain-fits = (now-is .1, (omega (arith, small), subst (Due (take count list)) (sym (now-is .0)) (subst (λ (t : List ℕ). Due t W) (sym listed) due)))
 
               -- 0
-              pub adopted : (z : Lent) → z ≡ flatW (drain plan g (take count list) (viewW now)) → done 0 z ≡ flatC (adoptM plan g k (viewW l))
-              unfolding viewW view
+              pub adopted : (z : Lent) → z ≡ flatW (drain plan g (take count list) (viewW now)) → only 0 z ≡ flatO (adoptM plan g k (viewW l))
+              unfolding viewW view flatO
               adopted z q₄ =
-                  ap (done 0) (q₄ ∙ ap₂ (λ (t : List ℕ) (w : World). flatW (drain plan g t w)) listed (now-is .0)) ∙ ap flatC (sym (settles ∙ done-is .0))
+                  ap (only 0) (q₄ ∙ ap₂ (λ (t : List ℕ) (w : World). flatW (drain plan g t w)) listed (now-is .0)) ∙ ap flatO (sym (settles ∙ done-is .0))

@@ -13,8 +13,8 @@ use Rattle.table.specs.State.{view, queueOf}
 use Rattle.steps.specs.World.{World, Lent, viewW, flatW, Ready}
 use Rattle.steps.specs.Steps.{releaseM}
 use Rattle.steps.specs.Laws.{world-is, ready-fit, lent-stays}
-use Rattle.mount.specs.Mount.{drain}
-use Rattle.mount.specs.Laws.{Due, due-first, due-fit, due-next}
+use Rattle.mount.specs.Mount.{drain, Due}
+use Rattle.mount.specs.Laws.{due-first, due-fit, due-next}
 
 pub record Draining (plan : List ℕ) (g : Geometry) (ls : List ℕ) (w : World) (l : Lent) (i : ℕ) : Type 0 where
   pub ready : Ready g l

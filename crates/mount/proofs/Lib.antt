@@ -1,3 +1,4 @@
 pub mod Draining
 pub mod Adopting
 pub mod Mounting
+pub mod Numbers

@@ -25,12 +25,12 @@ use Rattle.device.specs.declared.Geometry.{Geometry}
 use Rattle.device.specs.Device.{Dev, given, turn}
 use Rattle.rows.specs.Rows.{Row, unbound, bound, none, at, isBound, pathOf, genOf, holds, find}
 use Rattle.rows.specs.Find.{find-holds, find-none, find-le, holds-path, holds-bound, holds-unbound}
-use Rattle.dirs.specs.Dirs.{Dirs, registered}
-use Rattle.dirs.specs.Rows.{Short}
+use Rattle.dirs.specs.Dirs.{registered}
 use Rattle.dirs.specs.Joined.{joined-short}
 use Rattle.dirs.specs.Laws.{registered-dirs, ancestors-short}
+use Rattle.table.specs.State.{Slots, Directories}
 use Rattle.survey.specs.Heads.{Head, absent, idle, claim, saidOf, headOf, Reads, behind, looked, readsM}
-use Rattle.survey.specs.Survey.{Survey, survey, spare, enter, rival, meet, step, scan}
+use Rattle.survey.specs.Survey.{Survey, survey, claimRow, spare, enter, rival, meet, step, scan}
 
 -- A bound row is one of the rows.
 bound-inside : (rs : List Row) (j : ℕ) → isBound (at rs j) ≡ true → j < length rs
@@ -79,20 +79,20 @@ reads-fine plan g i (suc k) d = go (eqb (turn plan (d .place)) 1) (reads-fine pl
 
 -- ---- the rows, the free slots and the losers of a survey
 
--- All that a pool asks, but for the counts: q is its queue; and the same of the losers ls.
-pub record Sound (rs : List Row) (q ls : List ℕ) (ds : List (List ℕ)) (c : ℕ) : Type 0 where
-  pub text : (i : ℕ) → isText (pathOf (at rs i)) ≡ true
-  pub short : (i : ℕ) → length (pathOf (at rs i)) ≤ 480
-  pub apart : (i j : ℕ) → isBound (at rs i) ≡ true → isBound (at rs j) ≡ true → components (pathOf (at rs i)) ≡ components (pathOf (at rs j)) → i ≡ j
-  pub young : (i : ℕ) → genOf (at rs i) < c
-  pub begun : 1 ≤ c
+-- What a pool asks of its queue q, and the same of the losers ls; no slot is both.
+pub record Aside (rs : List Row) (q ls : List ℕ) : Type 0 where
   pub inside : (i : ℕ) → In i q ⊎ In i ls → i < length rs
   pub idle : (i : ℕ) → In i q ⊎ In i ls → isBound (at rs i) ≡ false
   pub once : Distinct q
   pub lost : Distinct ls
   pub other : (i : ℕ) → In i q → In i ls → ⊥
-  pub dirs-short : Short ds
-  pub directories : Dirs ds
+
+-- All that a pool asks, but for the counts, with the losers beside the queue.
+pub record Sound (rs : List Row) (q ls : List ℕ) (ds : List (List ℕ)) (c : ℕ) : Type 0 where
+  pub begun : 1 ≤ c
+  pub slots : Slots rs c
+  pub aside : Aside rs q ls
+  pub directories : Directories ds
 
 -- ---- one row changed, or one row more
 
@@ -138,7 +138,7 @@ module _ (rs ts : List Row) (q ls : List ℕ) (ds : List (List ℕ)) (c e n : �
         go (inl x) (inl y) = x .0 ∙ sym (y .0)
         go (inl x) (inr y) = absurd (new (rw (x .1) at b) j (y .0) (rw (y .1) at d) (rw (x .1, y .1) at k))
         go (inr x) (inl y) = absurd (new (rw (y .1) at d) i (x .0) (rw (x .1) at b) (sym (rw (x .1, y .1) at k)))
-        go (inr x) (inr y) = S .apart i j (rw (x .1) at b) (rw (y .1) at d) (rw (x .1, y .1) at k)
+        go (inr x) (inr y) = S .slots .apart i j (rw (x .1) at b) (rw (y .1) at d) (rw (x .1, y .1) at k)
 
     idle-rows : (j : ℕ) → In j q ⊎ In j ls → isBound (at ts j) ≡ false
     idle-rows j m = go (each j) (isBound r) refl
@@ -146,23 +146,24 @@ module _ (rs ts : List Row) (q ls : List ℕ) (ds : List (List ℕ)) (c e n : �
         go : Which j → (t : Bool) → isBound r ≡ t → isBound (at ts j) ≡ false
         go (inl x) true b = absurd (out b (subst (λ (k : ℕ). In k q ⊎ In k ls) (x .0) m))
         go (inl x) false b = ap isBound (x .1) ∙ b
-        go (inr x) t b = ap isBound (x .1) ∙ S .idle j m
+        go (inr x) t b = ap isBound (x .1) ∙ S .aside .idle j m
 
     sound-row : length rs ≤ length ts → isText (pathOf r) ≡ true → length (pathOf r) ≤ 480 → genOf r < e → c ≤ e → Sound ts q ls ds e
-    sound-row h t k g l = record {
-      text = all-rows (λ x. isText (pathOf x) ≡ true) t (S .text);
-      short = all-rows (λ x. length (pathOf x) ≤ 480) k (S .short);
-      apart = two-rows;
-      young = all-rows (λ x. genOf x < e) g (λ j. omega (arith, S .young j));
-      begun = omega (arith, S .begun);
-      inside = λ i m. omega (arith, S .inside i m);
-      idle = idle-rows;
-      once = S .once;
-      lost = S .lost;
-      other = S .other;
-      dirs-short = S .dirs-short;
-      directories = S .directories;
-    }
+    sound-row h t k g l =
+        let r = S .slots in
+        let a = S .aside in
+        record {
+          begun = omega (arith, S .begun);
+          slots =
+              record {
+                text = all-rows (λ x. isText (pathOf x) ≡ true) t (r .text);
+                short = all-rows (λ x. length (pathOf x) ≤ 480) k (r .short);
+                apart = two-rows;
+                young = all-rows (λ x. genOf x < e) g (λ j. omega (arith, r .young j));
+              };
+          aside = record { inside = λ i m. omega (arith, a .inside i m); idle = idle-rows; once = a .once; lost = a .lost; other = a .other };
+          directories = S .directories;
+        }
 
   -- A row of zeros may stand anywhere.
   sound-none : r ≡ none → length rs ≤ length ts → c ≤ e → Sound ts q ls ds e
@@ -174,14 +175,14 @@ module _ (rs ts : List Row) (q ls : List ℕ) (ds : List (List ℕ)) (c e n : �
 module _ (rs : List Row) (q ls : List ℕ) (ds : List (List ℕ)) (c : ℕ) (S : Sound rs q ls ds c) where
   -- no slot behind the rows is free or lost
   fresh : In (length rs) q ⊎ In (length rs) ls → ⊥
-  fresh m = omega (arith, S .inside (length rs) m)
+  fresh m = omega (arith, S .aside .inside (length rs) m)
 
   module _ (i : ℕ) (h : i < length rs) (b : isBound (at rs i) ≡ false) (n : In i q ⊎ In i ls → ⊥) where
     abbrev at-most : ℕ → Type 0
     at-most j = (j < length rs) × (isBound (at rs j) ≡ false)
 
     old : (j : ℕ) → In j q ⊎ In j ls → at-most j
-    old j m = (S .inside j m, S .idle j m)
+    old j m = (S .aside .inside j m, S .aside .idle j m)
 
     same : (j : ℕ) → j ≡ i → at-most j
     same j e = (omega arith, ap (λ (k : ℕ). isBound (at rs k)) e ∙ b)
@@ -196,53 +197,53 @@ module _ (rs : List Row) (q ls : List ℕ) (ds : List (List ℕ)) (c : ℕ) (S :
 
     -- One more free slot,
     sound-free : Sound rs (q ++ (i ∷ [])) ls ds c
-    sound-free = record {
-      text = S .text;
-      short = S .short;
-      apart = S .apart;
-      young = S .young;
-      begun = S .begun;
-      inside = λ j m. queue-one j m .0;
-      idle = λ j m. queue-one j m .1;
-      once = distinct-snoc i (S .once) (λ m. n (inl m));
-      lost = S .lost;
-      other = λ j m k. ⊎-elim (λ x. S .other j x k) (λ e. n (inr (subst (λ (x : ℕ). In x ls) e k))) (snoc-in q i j m);
-      dirs-short = S .dirs-short;
-      directories = S .directories;
-    }
+    sound-free =
+        let a = S .aside in
+        record {
+          begun = S .begun;
+          slots = S .slots;
+          aside =
+              record {
+                inside = λ j m. queue-one j m .0;
+                idle = λ j m. queue-one j m .1;
+                once = distinct-snoc i (a .once) (λ m. n (inl m));
+                lost = a .lost;
+                other = λ j m k. ⊎-elim (λ x. a .other j x k) (λ e. n (inr (subst (λ (x : ℕ). In x ls) e k))) (snoc-in q i j m);
+              };
+          directories = S .directories;
+        }
 
     -- and one more loser.
     sound-lost : Sound rs q (ls ++ (i ∷ [])) ds c
-    sound-lost = record {
-      text = S .text;
-      short = S .short;
-      apart = S .apart;
-      young = S .young;
-      begun = S .begun;
-      inside = λ j m. lost-one j m .0;
-      idle = λ j m. lost-one j m .1;
-      once = S .once;
-      lost = distinct-snoc i (S .lost) (λ m. n (inr m));
-      other = λ j k m. ⊎-elim (λ x. S .other j k x) (λ e. n (inl (subst (λ (x : ℕ). In x q) e k))) (snoc-in ls i j m);
-      dirs-short = S .dirs-short;
-      directories = S .directories;
-    }
+    sound-lost =
+        let a = S .aside in
+        record {
+          begun = S .begun;
+          slots = S .slots;
+          aside =
+              record {
+                inside = λ j m. lost-one j m .0;
+                idle = λ j m. lost-one j m .1;
+                once = a .once;
+                lost = distinct-snoc i (a .lost) (λ m. n (inr m));
+                other = λ j k m. ⊎-elim (λ x. a .other j k x) (λ e. n (inl (subst (λ (x : ℕ). In x q) e k))) (snoc-in ls i j m);
+              };
+          directories = S .directories;
+        }
 
   sound-dirs : (p : List ℕ) → length p ≤ 480 → Sound rs q ls (registered ds p) c
-  sound-dirs p h = record {
-    text = S .text;
-    short = S .short;
-    apart = S .apart;
-    young = S .young;
-    begun = S .begun;
-    inside = S .inside;
-    idle = S .idle;
-    once = S .once;
-    lost = S .lost;
-    other = S .other;
-    dirs-short = joined-short ds (ancestors p) (S .dirs-short) (ancestors-short p (omega (arith, normal-short p)));
-    directories = registered-dirs ds p (S .directories);
-  }
+  sound-dirs p h =
+      let D = S .directories in
+      record {
+        begun = S .begun;
+        slots = S .slots;
+        aside = S .aside;
+        directories =
+            record {
+              short = joined-short ds (ancestors p) (D .short) (ancestors-short p (omega (arith, normal-short p)));
+              dirs = registered-dirs ds p (D .dirs);
+            };
+      }
 
   -- A row of zeros behind the others, under this counter or a higher one.
   sound-blank : (e : ℕ) → c ≤ e → Sound (rs ++ (none ∷ [])) q ls ds e
@@ -250,10 +251,10 @@ module _ (rs : List Row) (q ls : List ℕ) (ds : List (List ℕ)) (c : ℕ) (S :
 
   -- A newcomer whose path no row holds.
   sound-new : (p : List ℕ) (g n : ℕ) → (isText p ≡ true) × (length p ≤ 480) → ((j : ℕ) → isBound (at rs j) ≡ true → components p ≡ components (pathOf (at rs j)) → ⊥)
-      → Sound (rs ++ (bound p g n false ∷ [])) q ls ds (max c (suc g))
+      → Sound (rs ++ (claimRow p g n ∷ [])) q ls ds (max c (suc g))
   unfolding pathOf genOf
   sound-new p g n s f =
-      let r : Row = bound p g n false in
+      let r : Row = claimRow p g n in
       sound-row rs (rs ++ (r ∷ [])) q ls ds c (max c (suc g)) (length rs) r S (snoc-changed rs r) (λ b j ne. f j) (λ b. fresh) (omega (arith, length-append rs (r ∷ []))) (s .0) (s .1) (omega arith) (omega arith)
 
 -- ---- one header more
@@ -292,9 +293,9 @@ module _ (p : List ℕ) (g n : ℕ) (s : (isText p ≡ true) × (length p ≤ 48
   held-by : (j : ℕ) → isBound (at (v .rows) j) ≡ true → components p ≡ components (pathOf (at (v .rows) j)) → holds p (at (v .rows) j) ≡ true
   held-by j b e = holds-path p (at (v .rows) j) b ∙ same-path (pathOf (at (v .rows) j)) p .1 (sym e)
 
-  new-keeps : isBound (at (v .rows) (find p (v .rows))) ≡ false → Keeps q (enter p g (v .rows) [] (bound p g n false) v)
+  new-keeps : isBound (at (v .rows) (find p (v .rows))) ≡ false → Keeps q (enter p g (v .rows) [] (claimRow p g n) v)
   new-keeps u =
-      let rs : List Row = v .rows ++ (bound p g n false ∷ []) in
+      let rs : List Row = v .rows ++ (claimRow p g n ∷ []) in
       let T : Sound rs (q ++ v .free) (v .losers) (v .dirs) c = sound-new (v .rows) (q ++ v .free) (v .losers) (v .dirs) (v .counter) S p g n s (λ j b e. none-holds j (held-by j b e)) in
       subst (λ (x : List ℕ). Sound rs (q ++ v .free) x (registered (v .dirs) p) c) (sym (append-nil (v .losers))) (sound-dirs rs (q ++ v .free) (v .losers) (v .dirs) c T p (s .1))
     where
@@ -305,7 +306,7 @@ module _ (p : List ℕ) (g n : ℕ) (s : (isText p ≡ true) × (length p ≤ 48
       none-holds j h = false≢true (sym (find-none p (v .rows) j far) ∙ h)
 
   -- the holder loses
-  ahead-keeps : isBound (at (v .rows) (find p (v .rows))) ≡ true → Keeps q (enter p g (set (v .rows) (find p (v .rows)) none) (find p (v .rows) ∷ []) (bound p g n false) v)
+  ahead-keeps : isBound (at (v .rows) (find p (v .rows))) ≡ true → Keeps q (enter p g (set (v .rows) (find p (v .rows)) none) (find p (v .rows) ∷ []) (claimRow p g n) v)
   unfolding isBound
   ahead-keeps b =
       let j : ℕ = find p (v .rows) in
@@ -315,10 +316,10 @@ module _ (p : List ℕ) (g n : ℕ) (s : (isText p ≡ true) × (length p ≤ 48
       let T : Sound ts (q ++ v .free) (v .losers) (v .dirs) (v .counter) =
       sound-none (v .rows) ts (q ++ v .free) (v .losers) (v .dirs) (v .counter) (v .counter) j none S (set-changed (v .rows) j none i) refl (omega arith) (omega arith) in
       let U : Sound ts (q ++ v .free) (v .losers ++ (j ∷ [])) (v .dirs) (v .counter) =
-      sound-lost ts (q ++ v .free) (v .losers) (v .dirs) (v .counter) T j (omega arith) (cleared i) (λ m. false≢true (sym (S .idle j m) ∙ b)) in
-      let W : Sound (ts ++ (bound p g n false ∷ [])) (q ++ v .free) (v .losers ++ (j ∷ [])) (v .dirs) c =
+      sound-lost ts (q ++ v .free) (v .losers) (v .dirs) (v .counter) T j (omega arith) (cleared i) (λ m. false≢true (sym (S .aside .idle j m) ∙ b)) in
+      let W : Sound (ts ++ (claimRow p g n ∷ [])) (q ++ v .free) (v .losers ++ (j ∷ [])) (v .dirs) c =
       sound-new ts (q ++ v .free) (v .losers ++ (j ∷ [])) (v .dirs) (v .counter) U p g n s (λ x bx e. nobody i x bx e (ℕ-discrete x j)) in
-      sound-dirs (ts ++ (bound p g n false ∷ [])) (q ++ v .free) (v .losers ++ (j ∷ [])) (v .dirs) c W p (s .1)
+      sound-dirs (ts ++ (claimRow p g n ∷ [])) (q ++ v .free) (v .losers ++ (j ∷ [])) (v .dirs) c W p (s .1)
     where
       cleared : find p (v .rows) < length (v .rows) → isBound (at (set (v .rows) (find p (v .rows)) none) (find p (v .rows))) ≡ false
       cleared i = ap isBound (getD-set-same (v .rows) (find p (v .rows)) none none i) ∙ refl
@@ -330,7 +331,7 @@ module _ (p : List ℕ) (g n : ℕ) (s : (isText p ≡ true) × (length p ≤ 48
           let a : at (set (v .rows) (find p (v .rows)) none) x ≡ at (v .rows) x = getD-set-other (v .rows) (find p (v .rows)) x none none z in
           let h : components (pathOf (at (v .rows) (find p (v .rows)))) ≡ components p =
           same-path (pathOf (at (v .rows) (find p (v .rows)))) p .0 (sym (holds-path p (at (v .rows) (find p (v .rows))) b) ∙ find-holds p (v .rows) i) in
-          z (sym (S .apart (find p (v .rows)) x b (rw a at bx) (h ∙ rw a at e)))
+          z (sym (S .slots .apart (find p (v .rows)) x b (rw a at bx) (h ∙ rw a at e)))
 
   claim-keeps : Keeps q (step (claim p g n) v)
   unfolding step isBound
@@ -342,7 +343,7 @@ module _ (p : List ℕ) (g n : ℕ) (s : (isText p ≡ true) × (length p ≤ 48
 
       go : (r : Row) → at (v .rows) (find p (v .rows)) ≡ r → Keeps q (meet p g n (find p (v .rows)) r v)
       go (unbound h) e = new-keeps (ap isBound e)
-      go (bound t h m d) e = rivals (leb g h) (ap isBound e)
+      go (bound t f) e = rivals (leb g (f .gen)) (ap isBound e)
 
 pub step-keeps : (q : List ℕ) (h : Head) (v : Survey) → Sane h → Keeps q v → Keeps q (step h v)
 unfolding step

@@ -17,24 +17,19 @@ use Rattle.device.specs.declared.Geometry.{Geometry}
 use Rattle.device.specs.Device.{Dev, Shape}
 use Rattle.rows.specs.Rows.{unbound, pathOf, isBound, genOf}
 use Rattle.dirs.specs.Joined.{no-dirs}
+use Rattle.table.specs.declared.Chosen.{Chosen}
 use Rattle.table.specs.State.{State, Valid}
 use Rattle.steps.specs.World.{World, world, Fit}
 use Rattle.steps.specs.Steps.{fineM, freeM, releaseM}
 use Rattle.steps.specs.Laws.{release-is, release-fit}
+use Rattle.steps.specs.Outcome.{only}
 use Rattle.survey.specs.Heads.{Head, Reads, readsM}
 use Rattle.survey.specs.Survey.{Survey, scan}
 use Rattle.survey.specs.Laws.{scan-length}
-use Rattle.mount.specs.Mount.{Came, came, begin, installed, drain, moved, settle, afterReads, tooMany, adoptM, emptyState, mountM}
+use Rattle.mount.specs.Mount.{begin, installed, drain, Due, moved, settle, afterReads, tooMany, adoptM, emptyState, mountM}
 use Rattle.mount.specs.Keeps.{AllSane, reads-fine, Sound, Keeps, scan-keeps}
 
 -- ---- releases in a row
-
--- Slots that can be released one after the other: each is held, none is free or comes twice, and there is a generation for each.
-pub record Due (ls : List ℕ) (w : World) : Type 0 where
-  pub once : Distinct ls
-  pub inside : (i : ℕ) → In i ls → i < length (w .state .rows)
-  pub unqueued : (i : ℕ) → In i ls → In i (w .state .queue) → ⊥
-  pub counted : w .state .counter + length ls ≤ 2 ^ 63
 
 apart-first : {i : ℕ} {ls : List ℕ} → Distinct (i ∷ ls) → In i ls → ⊥
 apart-first (more f t) = f
@@ -80,55 +75,46 @@ pub begin-keeps : (s : State) → Valid s → Keeps (s .queue) (begin s)
 begin-keeps s ok =
     subst (λ (x : List ℕ). Sound (s .rows) x [] (s .dirs) (s .counter)) (sym (append-nil (s .queue)))
     (record {
-      text = ok .text;
-      short = ok .short;
-      apart = ok .apart;
-      young = ok .young;
-      begun = ok .begun;
-      inside = λ i m. ⊎-elim (ok .inside i) (λ k. absurd (List·Memᴰ·not-nil k)) m;
-      idle = λ i m. ⊎-elim (ok .idle i) (λ k. absurd (List·Memᴰ·not-nil k)) m;
-      once = ok .once;
-      lost = none;
-      other = λ i m k. List·Memᴰ·not-nil k;
-      dirs-short = ok .dirs-short;
+      begun = ok .counts .begun;
+      slots = ok .slots;
+      aside =
+          record {
+            inside = λ i m. ⊎-elim (ok .waiting .inside i) (λ k. absurd (List·Memᴰ·not-nil k)) m;
+            idle = λ i m. ⊎-elim (ok .waiting .idle i) (λ k. absurd (List·Memᴰ·not-nil k)) m;
+            once = ok .waiting .once;
+            lost = none;
+            other = λ i m k. List·Memᴰ·not-nil k;
+          };
       directories = ok .directories;
     })
 
-module _ (s : State) (v : Survey) (ok : Valid s) (K : Keeps (s .queue) v) (few : length (v .rows) ≤ s .cap) (dirs : length (v .dirs) ≤ s .dirCap) where
+module _ (s : State) (v : Survey) (ok : Valid s) (K : Keeps (s .queue) v) (few : length (v .rows) ≤ s .chosen .rows) (dirs : length (v .dirs) ≤ s .chosen .«dir_rows») where
   pub installed-valid : v .counter ≤ 2 ^ 63 → Valid (installed s v)
   unfolding installed
-  installed-valid c = record {
-    small = ok .small;
-    dirs-small = ok .dirs-small;
-    few = few;
-    dirs-few = dirs;
-    text = K .text;
-    short = K .short;
-    apart = K .apart;
-    young = K .young;
-    begun = K .begun;
-    counted = c;
-    inside = λ i m. K .inside i (inl m);
-    idle = λ i m. K .idle i (inl m);
-    once = K .once;
-    dirs-short = K .dirs-short;
-    directories = K .directories;
-  }
+  installed-valid c =
+      let n = ok .counts in
+      let a = K .aside in
+      record {
+        counts = record { small = n .small; dirs-small = n .dirs-small; few = few; dirs-few = dirs; begun = K .begun; counted = c };
+        slots = K .slots;
+        waiting = record { inside = λ i m. a .inside i (inl m); idle = λ i m. a .idle i (inl m); once = a .once };
+        directories = K .directories;
+      }
 
   -- Its losers can be released.
   pub losers-due : (d : Dev) → v .counter + length (v .losers) ≤ 2 ^ 63 → Due (v .losers) (world d (installed s v))
   unfolding installed
-  losers-due d c = record { once = K .lost; inside = λ i m. K .inside i (inr m); unqueued = λ i m k. K .other i k m; counted = c }
+  losers-due d c = record { once = K .aside .lost; inside = λ i m. K .aside .inside i (inr m); unqueued = λ i m k. K .aside .other i k m; counted = c }
 
 -- ---- adopt and mount
 
 -- There is room for k more slots, in the rows and on the device.
-pub room-for : (k : ℕ) (w : World) → tooMany k w ≡ false → (k ≤ w .state .cap - length (w .state .rows)) × (k ≤ length (w .dev .phys) - length (w .state .rows))
+pub room-for : (k : ℕ) (w : World) → tooMany k w ≡ false → (k ≤ w .state .chosen .rows - length (w .state .rows)) × (k ≤ length (w .dev .phys) - length (w .state .rows))
 unfolding tooMany
-room-for k w h = go (ltb (w .state .cap - length (w .state .rows)) k) refl h
+room-for k w h = go (ltb (w .state .chosen .rows - length (w .state .rows)) k) refl h
   where
-    go : (t : Bool) → ltb (w .state .cap - length (w .state .rows)) k ≡ t → (t || ltb (length (w .dev .phys) - length (w .state .rows)) k) ≡ false
-        → (k ≤ w .state .cap - length (w .state .rows)) × (k ≤ length (w .dev .phys) - length (w .state .rows))
+    go : (t : Bool) → ltb (w .state .chosen .rows - length (w .state .rows)) k ≡ t → (t || ltb (length (w .dev .phys) - length (w .state .rows)) k) ≡ false
+        → (k ≤ w .state .chosen .rows - length (w .state .rows)) × (k ≤ length (w .dev .phys) - length (w .state .rows))
     go true e f = absurd (false≢true (sym f))
     go false e f = (ltb-false _ _ e, ltb-false _ _ f)
 
@@ -136,14 +122,14 @@ module _ (plan : List ℕ) (g : Geometry) (w : World) (F : Fit g w) where
   pub moved-fit : (p : Place) → Fit g (moved p w)
   moved-fit p = record { valid = F .valid; shape = F .shape; slots = F .slots }
 
-  module _ (hs : List Head) (s : AllSane hs) (few : length (w .state .rows) + length hs ≤ w .state .cap) (slots : length (w .state .rows) + length hs ≤ length (w .dev .phys)) where
+  module _ (hs : List Head) (s : AllSane hs) (few : length (w .state .rows) + length hs ≤ w .state .chosen .rows) (slots : length (w .state .rows) + length hs ≤ length (w .dev .phys)) where
     abbrev v : Survey
     v = scan hs (begin (w .state))
 
     pub scanned : Keeps (w .state .queue) v
     scanned = scan-keeps (w .state .queue) hs (begin (w .state)) s (begin-keeps (w .state) (F .valid))
 
-    pub installed-fit : (p : Place) → length (v .dirs) ≤ w .state .dirCap → v .counter ≤ 2 ^ 63 → Fit g (world (moved p w .dev) (installed (w .state) v))
+    pub installed-fit : (p : Place) → length (v .dirs) ≤ w .state .chosen .«dir_rows» → v .counter ≤ 2 ^ 63 → Fit g (world (moved p w .dev) (installed (w .state) v))
     unfolding installed
     installed-fit p h c = record {
       valid = installed-valid (w .state) v (F .valid) scanned (omega (arith, scan-length hs (w .state .rows) (w .state .dirs) (w .state .counter))) h c;
@@ -151,25 +137,25 @@ module _ (plan : List ℕ) (g : Geometry) (w : World) (F : Fit g w) where
       slots = omega (arith, scan-length hs (w .state .rows) (w .state .dirs) (w .state .counter));
     }
 
-    settled-fit : (p : Place) → Fit g (settle plan g v (moved p w) .world)
+    settled-fit : (p : Place) → Fit g (settle plan g v (moved p w) .left)
     unfolding settle
-    settled-fit p = eight (ltb (w .state .dirCap) (length (v .dirs))) refl
+    settled-fit p = eight (ltb (w .state .chosen .«dir_rows») (length (v .dirs))) refl
       where
-        nine : (t : Bool) → length (v .dirs) ≤ w .state .dirCap → ltb (2 ^ 63) (v .counter + length (v .losers)) ≡ t
-            → Fit g (cond t (came 9 (moved p w)) (came 0 (drain plan g (v .losers) (world (moved p w .dev) (installed (w .state) v)))) .world)
+        nine : (t : Bool) → length (v .dirs) ≤ w .state .chosen .«dir_rows» → ltb (2 ^ 63) (v .counter + length (v .losers)) ≡ t
+            → Fit g (cond t (only 9 (moved p w)) (only 0 (drain plan g (v .losers) (world (moved p w .dev) (installed (w .state) v)))) .left)
         nine true h e = moved-fit p
         nine false h e =
             let c : v .counter + length (v .losers) ≤ 2 ^ 63 = ltb-false _ _ e in
             drain-fit plan g (v .losers) (world (moved p w .dev) (installed (w .state) v))
             (losers-due (w .state) v (F .valid) scanned (omega (arith, scan-length hs (w .state .rows) (w .state .dirs) (w .state .counter))) h (moved p w .dev) c) (installed-fit p h (omega arith))
 
-        eight : (t : Bool) → ltb (w .state .dirCap) (length (v .dirs)) ≡ t
-            → Fit g (cond t (came 8 (moved p w)) (cond (ltb (2 ^ 63) (v .counter + length (v .losers))) (came 9 (moved p w))
-            (came 0 (drain plan g (v .losers) (world (moved p w .dev) (installed (w .state) v))))) .world)
+        eight : (t : Bool) → ltb (w .state .chosen .«dir_rows») (length (v .dirs)) ≡ t
+            → Fit g (cond t (only 8 (moved p w)) (cond (ltb (2 ^ 63) (v .counter + length (v .losers))) (only 9 (moved p w))
+            (only 0 (drain plan g (v .losers) (world (moved p w .dev) (installed (w .state) v))))) .left)
         eight true e = moved-fit p
         eight false e = nine (ltb (2 ^ 63) (v .counter + length (v .losers))) (ltb-false _ _ e) refl
 
-  pub adopt-valid : (k : ℕ) → Fit g (adoptM plan g k w .world)
+  pub adopt-valid : (k : ℕ) → Fit g (adoptM plan g k w .left)
   unfolding adoptM afterReads
   adopt-valid k = go (tooMany k w) refl
     where
@@ -177,13 +163,13 @@ module _ (plan : List ℕ) (g : Geometry) (w : World) (F : Fit g w) where
       n = length (w .state .rows)
 
       reads : (t : Bool) (r : Reads) → AllSane (r .heads) → length (r .heads) ≤ k → tooMany k w ≡ false
-          → Fit g (cond t (came 10 (moved (r .place) w)) (settle plan g (scan (r .heads) (begin (w .state))) (moved (r .place) w)) .world)
+          → Fit g (cond t (only 10 (moved (r .place) w)) (settle plan g (scan (r .heads) (begin (w .state))) (moved (r .place) w)) .left)
       reads true r s h e = moved-fit (r .place)
       reads false r s h e =
           let x = room-for k w e in
-          settled-fit (r .heads) s (omega (arith, x .0, F .valid .few)) (omega (arith, x .1, F .slots)) (r .place)
+          settled-fit (r .heads) s (omega (arith, x .0, F .valid .counts .few)) (omega (arith, x .1, F .slots)) (r .place)
 
-      go : (t : Bool) → tooMany k w ≡ t → Fit g (cond t (came 12 w) (afterReads plan g (readsM plan g (length (w .state .rows)) k (w .dev)) w) .world)
+      go : (t : Bool) → tooMany k w ≡ t → Fit g (cond t (only 12 w) (afterReads plan g (readsM plan g (length (w .state .rows)) k (w .dev)) w) .left)
       go true e = F
       go false e =
           let r : Reads = readsM plan g (length (w .state .rows)) k (w .dev) in
@@ -191,60 +177,51 @@ module _ (plan : List ℕ) (g : Geometry) (w : World) (F : Fit g w) where
           reads (r .failed) r (f .0) (f .1) e
 
 -- A refused adoption changes nothing of the pool.
-settle-refused : (plan : List ℕ) (g : Geometry) (v : Survey) (w : World) → (settle plan g v w .out ≡ 0 → ⊥) → settle plan g v w .world .state ≡ w .state
+settle-refused : (plan : List ℕ) (g : Geometry) (v : Survey) (w : World) → (settle plan g v w .out ≡ 0 → ⊥) → settle plan g v w .left .state ≡ w .state
 unfolding settle
-settle-refused plan g v w = eight (ltb (w .state .dirCap) (length (v .dirs)))
+settle-refused plan g v w = eight (ltb (w .state .chosen .«dir_rows») (length (v .dirs)))
   where
-    nine : (t : Bool) → (cond t (came 9 w) (came 0 (drain plan g (v .losers) (world (w .dev) (installed (w .state) v)))) .out ≡ 0 → ⊥)
-        → cond t (came 9 w) (came 0 (drain plan g (v .losers) (world (w .dev) (installed (w .state) v)))) .world .state ≡ w .state
+    nine : (t : Bool) → (cond t (only 9 w) (only 0 (drain plan g (v .losers) (world (w .dev) (installed (w .state) v)))) .out ≡ 0 → ⊥)
+        → cond t (only 9 w) (only 0 (drain plan g (v .losers) (world (w .dev) (installed (w .state) v)))) .left .state ≡ w .state
     nine true ne = refl
     nine false ne = absurd (ne refl)
 
     eight : (t : Bool)
-        → (cond t (came 8 w) (cond (ltb (2 ^ 63) (v .counter + length (v .losers))) (came 9 w) (came 0 (drain plan g (v .losers) (world (w .dev) (installed (w .state) v))))) .out ≡ 0 → ⊥)
-        → cond t (came 8 w) (cond (ltb (2 ^ 63) (v .counter + length (v .losers))) (came 9 w) (came 0 (drain plan g (v .losers) (world (w .dev) (installed (w .state) v))))) .world .state ≡ w .state
+        → (cond t (only 8 w) (cond (ltb (2 ^ 63) (v .counter + length (v .losers))) (only 9 w) (only 0 (drain plan g (v .losers) (world (w .dev) (installed (w .state) v))))) .out ≡ 0 → ⊥)
+        → cond t (only 8 w) (cond (ltb (2 ^ 63) (v .counter + length (v .losers))) (only 9 w) (only 0 (drain plan g (v .losers) (world (w .dev) (installed (w .state) v))))) .left .state ≡ w .state
     eight true ne = refl
     eight false ne = nine (ltb (2 ^ 63) (v .counter + length (v .losers))) ne
 
-pub adopt-refused : (plan : List ℕ) (g : Geometry) (k : ℕ) (w : World) → (adoptM plan g k w .out ≡ 0 → ⊥) → adoptM plan g k w .world .state ≡ w .state
+pub adopt-refused : (plan : List ℕ) (g : Geometry) (k : ℕ) (w : World) → (adoptM plan g k w .out ≡ 0 → ⊥) → adoptM plan g k w .left .state ≡ w .state
 unfolding adoptM afterReads
 adopt-refused plan g k w = go (tooMany k w)
   where
-    reads : (t : Bool) (r : Reads) → (cond t (came 10 (moved (r .place) w)) (settle plan g (scan (r .heads) (begin (w .state))) (moved (r .place) w)) .out ≡ 0 → ⊥)
-        → cond t (came 10 (moved (r .place) w)) (settle plan g (scan (r .heads) (begin (w .state))) (moved (r .place) w)) .world .state ≡ w .state
+    reads : (t : Bool) (r : Reads) → (cond t (only 10 (moved (r .place) w)) (settle plan g (scan (r .heads) (begin (w .state))) (moved (r .place) w)) .out ≡ 0 → ⊥)
+        → cond t (only 10 (moved (r .place) w)) (settle plan g (scan (r .heads) (begin (w .state))) (moved (r .place) w)) .left .state ≡ w .state
     reads true r ne = refl
     reads false r ne = settle-refused plan g (scan (r .heads) (begin (w .state))) (moved (r .place) w) ne
 
-    go : (t : Bool) → (cond t (came 12 w) (afterReads plan g (readsM plan g (length (w .state .rows)) k (w .dev)) w) .out ≡ 0 → ⊥)
-        → cond t (came 12 w) (afterReads plan g (readsM plan g (length (w .state .rows)) k (w .dev)) w) .world .state ≡ w .state
+    go : (t : Bool) → (cond t (only 12 w) (afterReads plan g (readsM plan g (length (w .state .rows)) k (w .dev)) w) .out ≡ 0 → ⊥)
+        → cond t (only 12 w) (afterReads plan g (readsM plan g (length (w .state .rows)) k (w .dev)) w) .left .state ≡ w .state
     go true ne = refl
     go false ne = reads (readsM plan g (length (w .state .rows)) k (w .dev) .failed) (readsM plan g (length (w .state .rows)) k (w .dev)) ne
 
 -- The pool of no slots on a device of the right shape.
-pub empty-fit : (g : Geometry) (d : Dev) (cap dirCap : ℕ) → Shape g (d .bytes) (d .phys) → cap ≤ 64 → dirCap ≤ 256 → Fit g (world d (emptyState cap dirCap))
+pub empty-fit : (g : Geometry) (d : Dev) (h : Chosen) → Shape g (d .bytes) (d .phys) → h .rows ≤ 64 → h .«dir_rows» ≤ 256 → Fit g (world d (emptyState h))
 unfolding emptyState pathOf isBound genOf
-empty-fit g d cap dirCap s h k = record {
-  valid = record {
-    small = h;
-    dirs-small = k;
-    few = omega arith;
-    dirs-few = omega arith;
-    text = λ i. text-complete Text.none;
-    short = λ i. omega arith;
-    apart = λ i j b. absurd (false≢true b);
-    young = λ i. omega arith;
-    begun = omega arith;
-    counted = omega arith;
-    inside = λ i m. absurd (List·Memᴰ·not-nil m);
-    idle = λ i m. absurd (List·Memᴰ·not-nil m);
-    once = none;
-    dirs-short = λ x m. absurd (List·Memᴰ·not-nil m);
-    directories = no-dirs;
-  };
+empty-fit g d h s n m = record {
+  valid =
+      record {
+        counts = record { small = n; dirs-small = m; few = omega arith; dirs-few = omega arith; begun = omega arith; counted = omega arith };
+        slots = record { text = λ i. text-complete Text.none; short = λ i. omega arith; apart = λ i j b. absurd (false≢true b); young = λ i. omega arith };
+        waiting = record { inside = λ i m. absurd (List·Memᴰ·not-nil m); idle = λ i m. absurd (List·Memᴰ·not-nil m); once = none };
+        directories = record { short = λ x m. absurd (List·Memᴰ·not-nil m); dirs = no-dirs };
+      };
   shape = s;
   slots = omega arith;
 }
 
-pub mount-valid : (plan : List ℕ) (g : Geometry) (cap dirCap k : ℕ) (d : Dev) → Shape g (d .bytes) (d .phys) → cap ≤ 64 → dirCap ≤ 256 → Fit g (mountM plan g cap dirCap k d .world)
+pub mount-valid : (plan : List ℕ) (g : Geometry) (h : Chosen) (k : ℕ) (d : Dev) → Shape g (d .bytes) (d .phys) → h .rows ≤ 64 → h .«dir_rows» ≤ 256
+    → Fit g (mountM plan g h k d .left)
 unfolding mountM
-mount-valid plan g cap dirCap k d s h j = adopt-valid plan g (world d (emptyState cap dirCap)) (empty-fit g d cap dirCap s h j) k
+mount-valid plan g h k d s n m = adopt-valid plan g (world d (emptyState h)) (empty-fit g d h s n m) k

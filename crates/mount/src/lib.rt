@@ -1,18 +1,19 @@
 // Mount and adopt of pool.rs (`new`, `adopt_slots` over `install`): the headers of new slots are read, the claims take their rows, and the
-// losers are released. Refused are 12 (more slots than rows or device), 10 from a header read, 8 and 9; nothing of the pool has changed then.
-// That the buffers are a pool on its device, and the shapes, the caller has seen.
+// losers are released. Refused are 12 (more slots than rows or device), 10 from a header read, 8 and 9; nothing of the pool has changed
+// then. That the buffers are a pool on its device, and the shapes, the caller has seen.
 use device::Geometry;
 use device::Place;
 use steps::Stepped;
+use table::Chosen;
 use table::Pool;
 ghost use mathlib.Core.Path.{_≡_};
 ghost use Prim.Native.Nat.{_*_, _≤_, max};
 ghost use lib.ListN.{length, take};
 ghost use Rattle.device.specs.Device.{dev, Shape};
 ghost use Rattle.table.specs.State.{bufs, poolOf};
-ghost use Rattle.steps.specs.World.{lent, viewW, flatW, Ready};
-ghost use Rattle.mount.specs.Mount.{drain, done, flatC, adoptM, emptyState, mountM, zeroPool, mounted};
-ghost use Rattle.mount.specs.Laws.{Due};
+ghost use Rattle.steps.specs.World.{lent, viewW, flatW, Ready, before, after};
+ghost use Rattle.steps.specs.Outcome.{only, flatO};
+ghost use Rattle.mount.specs.Mount.{drain, Due, adoptM, emptyState, mountM, zeroPool, mounted};
 
 // The number that an adoption came to, the place after it, and the pool's record.
 pub struct Adopted {
@@ -36,8 +37,14 @@ pub fn drain(
     count: usize,
 ) -> Stepped
     requires { ⌜ Ready geometry (lent (dev (now bytes) (now phys) place) (bufs pool (now nums) (now names) (now dirs))) ⌝ }
-    requires { ⌜ (count ≤ 64) × Due (take count losers) (viewW (lent (dev (now bytes) (now phys) place) (bufs pool (now nums) (now names) (now dirs)))) ⌝ }
-    ensures { λ r. ⌜ lent (dev (now (bytes .exit)) (now (phys .exit)) (r .place)) (bufs (r .pool) (now (nums .exit)) (now (names .exit)) (now (dirs .entry))) ≡ flatW (drain (now (plan .entry)) geometry (take count losers) (viewW (lent (dev (now (bytes .entry)) (now (phys .entry)) place) (bufs pool (now (nums .entry)) (now (names .entry)) (now (dirs .entry)))))) ⌝ }
+    requires { ⌜
+        (count ≤ 64)
+        × Due (take count losers)
+        (viewW (lent (dev (now bytes) (now phys) place) (bufs pool (now nums) (now names) (now dirs)))) ⌝ }
+    ensures { λ r. ⌜
+        after bytes phys (r .place) nums names dirs (r .pool)
+        ≡ flatW
+        (drain (now (plan .entry)) geometry (take count losers) (viewW (before bytes phys place nums names dirs pool))) ⌝ }
 {
     let mut at = place;
     let mut q = pool;
@@ -76,9 +83,11 @@ pub fn adopt(
     k: usize,
 ) -> Adopted
     requires { ⌜ Ready geometry (lent (dev (now bytes) (now phys) place) (bufs pool (now nums) (now names) (now dirs))) ⌝ }
-    ensures { λ r. ⌜ done (r .out) (lent (dev (now (bytes .exit)) (now (phys .exit)) (r .place)) (bufs (r .pool) (now (nums .exit)) (now (names .exit)) (now (dirs .exit)))) ≡ flatC (adoptM (now (plan .entry)) geometry k (viewW (lent (dev (now (bytes .entry)) (now (phys .entry)) place) (bufs pool (now (nums .entry)) (now (names .entry)) (now (dirs .entry)))))) ⌝ }
+    ensures { λ r. ⌜
+        only (r .out) (after bytes phys (r .place) nums names dirs (r .pool))
+        ≡ flatO (adoptM (now (plan .entry)) geometry k (viewW (before bytes phys place nums names dirs pool))) ⌝ }
 {
-    let cap = pool.rows;
+    let cap = pool.chosen.rows;
     let n = pool.held;
     if cap - n < k {
         return Adopted {
@@ -146,12 +155,11 @@ pub fn adopt(
 // ---- mount
 
 // The record of a pool of no slots.
-fn empty(cap: usize, dir_cap: usize) -> Pool
-    ensures { λ r. ⌜ r ≡ poolOf (emptyState cap «dir_cap») ⌝ }
+fn empty(chosen: Chosen) -> Pool
+    ensures { λ r. ⌜ r ≡ poolOf (emptyState chosen) ⌝ }
 {
     Pool {
-        rows: cap,
-        dir_rows: dir_cap,
+        chosen: chosen,
         held: 0,
         dirs: 0,
         counter: 1,
@@ -165,8 +173,10 @@ pub fn zero() -> Pool
     ensures { λ r. ⌜ r ≡ zeroPool ⌝ }
 {
     Pool {
-        rows: 0,
-        dir_rows: 0,
+        chosen: Chosen {
+            rows: 0,
+            dir_rows: 0,
+        },
         held: 0,
         dirs: 0,
         counter: 0,
@@ -186,18 +196,22 @@ pub fn mount_rows(
     nums: &mut [u64],
     names: &mut [u8],
     dirs: &mut [u8],
-    cap: usize,
-    dir_cap: usize,
+    chosen: Chosen,
     k: usize,
 ) -> Adopted
-    requires { ⌜ Shape geometry (now bytes) (now phys) × (cap ≤ 64) × («dir_cap» ≤ 256) ⌝ }
-    requires { ⌜ (length (now nums) ≡ cap * 4) × (length (now names) ≡ cap * 480) × (length (now dirs) ≡ «dir_cap» * 482) ⌝ }
-    ensures { λ r. ⌜ done (r .out) (lent (dev (now (bytes .exit)) (now (phys .exit)) (r .place)) (bufs (r .pool) (now (nums .exit)) (now (names .exit)) (now (dirs .exit)))) ≡ mounted (mountM (now (plan .entry)) geometry cap «dir_cap» k (dev (now (bytes .entry)) (now (phys .entry)) place)) ⌝ }
+    requires { ⌜ Shape geometry (now bytes) (now phys) × (chosen .rows ≤ 64) × (chosen .«dir_rows» ≤ 256) ⌝ }
+    requires { ⌜
+        (length (now nums) ≡ chosen .rows * 4)
+        × (length (now names) ≡ chosen .rows * 480)
+        × (length (now dirs) ≡ chosen .«dir_rows» * 482) ⌝ }
+    ensures { λ r. ⌜
+        only (r .out) (after bytes phys (r .place) nums names dirs (r .pool))
+        ≡ mounted (mountM (now (plan .entry)) geometry chosen k (dev (now (bytes .entry)) (now (phys .entry)) place)) ⌝ }
 {
     rows::clear_rows(nums, names);
     let d = dirs.len();
     rows::zero_in(dirs, 0, d);
-    let pool = empty(cap, dir_cap);
+    let pool = empty(chosen);
     let adopted = adopt(
         bytes,
         phys,

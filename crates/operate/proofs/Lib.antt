@@ -1,1 +1,2 @@
+-- The rows of the table of codes, and the answer.
 pub mod Ways

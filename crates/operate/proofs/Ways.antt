@@ -12,17 +12,17 @@ use Rattle.le.specs.Le.{le}
 use Rattle.le.specs.Fields.{length-le}
 use Rattle.device.specs.declared.Geometry.{Geometry}
 use Rattle.steps.specs.World.{Lent}
-use Rattle.gate.specs.Answers.{numberOf}
 use Rattle.reader.specs.declared.Op.{Op}
 use Rattle.reader.specs.declared.Form.{Form}
 use Rattle.reader.specs.Format.{part, formOf}
 use Rattle.writer.specs.Writer.{Shown, pours}
 use Rattle.writer.specs.Laws.{after-pours}
-use Rattle.calls.specs.declared.Call.{Call}
-use Rattle.calls.specs.declared.Call.the-variants.{Mount, Adopt, OpenWrite, OpenRead, ReadAt, WriteAt, SetLen, FileLen, Sync, Metadata}
-use Rattle.calls.specs.declared.Reply.{Reply}
-use Rattle.calls.specs.Calls.{Told, Called, called}
-use Rattle.dispatch.specs.Dispatch.{callP}
+use Rattle.calls_gate.specs.declared.Call.{Call}
+use Rattle.calls_gate.specs.declared.Call.the-variants.{Mount, Adopt, OpenWrite, OpenRead, ReadAt, WriteAt, SetLen, FileLen, Sync, Metadata}
+use Rattle.calls_gate.specs.declared.Reply.{Reply}
+use Rattle.calls_gate.specs.Answers.{numberOf}
+use Rattle.calls_gate.specs.Replies.{Came}
+use Rattle.calls_gate.specs.Calls.{callP}
 use Rattle.operate.specs.Operate.{bit, onHandle, onPath, callOf, answerM, room, saidOf, answeredM, opM, Reached, reached, spoken}
 
 -- ---- the rows
@@ -52,7 +52,8 @@ module _ (o : Op) where
         is-sync h = rw (ne-eqb _ _ a, ne-eqb _ _ b, ne-eqb _ _ c, ne-eqb _ _ h)
 
 -- none of the codes before
-pub is-metadata : (k : ℕ) → (k ≡ 10 → ⊥) → (k ≡ 11 → ⊥) → (k ≡ 12 → ⊥) → (k ≡ 13 → ⊥) → (k ≡ 14 → ⊥) → (k ≡ 15 → ⊥) → Metadata ≡ onPath k
+pub is-metadata : (k : ℕ) → (k ≡ 10 → ⊥) → (k ≡ 11 → ⊥) → (k ≡ 12 → ⊥) → (k ≡ 13 → ⊥) → (k ≡ 14 → ⊥) → (k ≡ 15 → ⊥)
+    → Metadata ≡ onPath k
 unfolding onPath
 is-metadata k a b c d e f = rw (ne-eqb _ _ a, ne-eqb _ _ b, ne-eqb _ _ c, ne-eqb _ _ d, ne-eqb _ _ e, ne-eqb _ _ f)
 
@@ -86,17 +87,18 @@ module _ (o : Op) where
           is-on-path h = rw (ne-eqb _ _ a, ne-eqb _ _ b, ne-eqb _ _ c, ne-eqb _ _ d, lt-leb _ _ h)
 
 -- the call that was read is the operation's
-pub asked : (plan : List ℕ) (g : Geometry) (o : Op) (k : Call) (one two buf : List ℕ) (l : Lent) (x : Called) → k ≡ callOf o → x ≡ callP plan g k one two buf l
-    → x ≡ callP plan g (callOf o) one two buf l
+pub asked : (plan : List ℕ) (g : Geometry) (o : Op) (k : Call) (one two buf : List ℕ) (l : Lent) (x : Came) → k ≡ callOf o
+    → x ≡ callP plan g k one two buf l → x ≡ callP plan g (callOf o) one two buf l
 asked plan g o k one two buf l x e f = f ∙ ap (λ (j : Call). callP plan g j one two buf l) e
 
 -- ---- the answer
 
 -- of the reply's numbers, each as it was put out
-pub answer-is : (o : Op) (f : Form) (r : Reply) (n k : ℕ) (buf : List ℕ) → f ≡ formOf (o .code) → n ≡ numberOf (r .answer) → k ≡ bit (r .yes)
-    → le 1 n ++ le (f .«gives_slot») (r .slot) ++ le (f .«gives_generation») (r .generation) ++ le (f .«gives_len») (r .len) ++ le (f .«gives_count») (r .count)
-    ++ le (f .«gives_yes») k ++ buf
-    ≡ answerM o (numberOf (r .answer)) (r .slot) (r .generation) (r .len) (r .count) (r .yes) buf
+pub answer-is : (o : Op) (f : Form) (r : Reply) (n k : ℕ) (buf : List ℕ) → f ≡ formOf (o .code) → n ≡ numberOf (r .answer)
+    → k ≡ bit (r .told .yes)
+    → le 1 n ++ le (f .«gives_slot») (r .told .slot) ++ le (f .«gives_generation») (r .told .generation)
+    ++ le (f .«gives_len») (r .told .len) ++ le (f .«gives_count») (r .told .count) ++ le (f .«gives_yes») k ++ buf
+    ≡ answerM o (numberOf (r .answer)) (r .told) buf
 unfolding answerM
 answer-is o f r n k buf e en ek = rw (e, en, ek)
 
@@ -124,18 +126,20 @@ room-small o h = go (eqb (formOf (o .code) .n) 2)
 pub fresh-front : (n m x : ℕ) (w : List ℕ) → w ≡ replicate m x → n ≤ m → take n w ≡ replicate n x
 fresh-front n m x w e h =
     let k : n + (m - n) ≡ m = omega arith in
-    ap (take n) (e ∙ ap (λ (j : ℕ). replicate j x) (sym k) ∙ sym (replicate-append-replicate n (m - n) x)) ∙ take-at (replicate n x) (replicate (m - n) x) n (length-replicate n x)
+    ap (take n) (e ∙ ap (λ (j : ℕ). replicate j x) (sym k) ∙ sym (replicate-append-replicate n (m - n) x))
+    ∙ take-at (replicate n x) (replicate (m - n) x) n (length-replicate n x)
 
 -- the call, and its answer put out
-pub answered-is : (s plan : List ℕ) (g : Geometry) (o : Op) (l : Lent) (t′ : Told) (buf buf₀ : List ℕ) (x x′ : Shown)
-    → called t′ buf ≡ callP plan g (callOf o) (part s (o .first)) (part s (o .second)) buf₀ l → x′ ≡ pours (saidOf o (called t′ buf) .answer) x
-    → reached x′ (t′ .left) ≡ spoken (answeredM s plan g o buf₀ l) x
+pub answered-is : (s plan : List ℕ) (g : Geometry) (o : Op) (l : Lent) (c : Came) (buf : List ℕ) (x x′ : Shown)
+    → c ≡ callP plan g (callOf o) (part s (o .first)) (part s (o .second)) buf l → x′ ≡ pours (saidOf o c .answer) x
+    → reached x′ (c .left) ≡ spoken (answeredM s plan g o buf l) x
 unfolding answeredM spoken
-answered-is s plan g o l t′ buf buf₀ x x′ e h = ap (λ (u : Shown). reached u (t′ .left)) h ∙ ap (λ (c : Called). spoken (saidOf o c) x) e
+answered-is s plan g o l c buf x x′ e h =
+    ap (λ (u : Shown). reached u (c .left)) h ∙ ap (λ (k : Came). spoken (saidOf o k) x) e
 
 -- with the buffer that the operation asks for
-pub step-is : (s plan : List ℕ) (g : Geometry) (o : Op) (l : Lent) (buf : List ℕ) (x : Shown) (y : Reached) → buf ≡ replicate (room o) 170 → y ≡ spoken (answeredM s plan g o buf l) x
-    → y ≡ spoken (opM s plan g o l) x
+pub step-is : (s plan : List ℕ) (g : Geometry) (o : Op) (l : Lent) (buf : List ℕ) (x : Shown) (y : Reached) → buf ≡ replicate (room o) 170
+    → y ≡ spoken (answeredM s plan g o buf l) x → y ≡ spoken (opM s plan g o l) x
 unfolding opM
 step-is s plan g o l buf x y f e = e ∙ ap (λ (b : List ℕ). spoken (answeredM s plan g o b l) x) f
 

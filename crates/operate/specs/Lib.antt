@@ -1,1 +1,2 @@
+-- The call of an operation, and its answer.
 pub mod Operate

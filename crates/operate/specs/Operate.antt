@@ -10,10 +10,12 @@ use Rattle.steps.specs.World.{Lent}
 use Rattle.reader.specs.declared.Op.{Op}
 use Rattle.reader.specs.Format.{part, formOf}
 use Rattle.writer.specs.Writer.{Shown, pours}
-use Rattle.calls.specs.declared.Call.{Call}
-use Rattle.calls.specs.declared.Call.the-variants.{Mount, Adopt, OpenWrite, OpenRead, ReadAt, WriteAt, SetLen, FileLen, Sync, SyncDir, Rename, RemoveFile, CreateDirAll, ReadDir, Exists, Metadata}
-use Rattle.calls.specs.Calls.{Called}
-use Rattle.dispatch.specs.Dispatch.{callP}
+use Rattle.calls_gate.specs.declared.Call.{Call}
+use Rattle.calls_gate.specs.declared.Call.the-variants.{Mount, Adopt, OpenWrite, OpenRead, ReadAt, WriteAt, SetLen, FileLen}
+use Rattle.calls_gate.specs.declared.Call.the-variants.{Sync, SyncDir, Rename, RemoveFile, CreateDirAll, ReadDir, Exists, Metadata}
+use Rattle.calls_gate.specs.declared.Told.{Told}
+use Rattle.calls_gate.specs.Replies.{Came}
+use Rattle.calls_gate.specs.Calls.{callP}
 
 -- ---- the table
 
@@ -51,11 +53,13 @@ callOf o =
 abbrev pub bit : Bool → ℕ
 bit b = cond b 1 0
 
--- "u8 number (0 done, else 01's), then the results, of the same length for the same operation": what a call tells, as wide as the table says, and the buffer.
-unfoldable pub answerM : Op → ℕ → ℕ → ℕ → ℕ → ℕ → Bool → List ℕ → List ℕ
-answerM o n slot generation len count said buf =
-    le 1 n ++ le (formOf (o .code) .«gives_slot») slot ++ le (formOf (o .code) .«gives_generation») generation ++ le (formOf (o .code) .«gives_len») len
-    ++ le (formOf (o .code) .«gives_count») count ++ le (formOf (o .code) .«gives_yes») (bit said) ++ buf
+-- "u8 number (0 done, else 01's), then the results, of the same length for the same operation": what a call tells, as wide as the table
+-- says, and the buffer.
+unfoldable pub answerM : Op → ℕ → Told → List ℕ → List ℕ
+answerM o n t buf =
+    let f = formOf (o .code) in
+    le 1 n ++ le (f .«gives_slot») (t .slot) ++ le (f .«gives_generation») (t .generation) ++ le (f .«gives_len») (t .len)
+    ++ le (f .«gives_count») (t .count) ++ le (f .«gives_yes») (bit (t .yes)) ++ buf
 
 -- "A u16 buffer length means the call is handed a buffer of that length."
 unfoldable pub room : Op → ℕ
@@ -69,10 +73,8 @@ pub record Said : Type 0 where
 abbrev pub said : List ℕ → Lent → Said
 said a l = record { answer = a; left = l }
 
-abbrev pub saidOf : Op → Called → Said
-saidOf o c =
-    let t = c .told in
-    record { answer = answerM o (t .number) (t .slot) (t .generation) (t .len) (t .count) (t .yes) (c .buf); left = t .left }
+abbrev pub saidOf : Op → Came → Said
+saidOf o c = said (answerM o (c .number) (c .told) (c .buf)) (c .left)
 
 -- The call is handed this buffer.
 unfoldable pub answeredM : List ℕ → List ℕ → Geometry → Op → List ℕ → Lent → Said

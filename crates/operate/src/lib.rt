@@ -1,8 +1,8 @@
-// One operation of a script (docs/EXPORTS.md): the call that its code stands for, made through the pool's face of records, and its answer, which goes to
-// the output. A refused call answers its number and as many bytes as any other. The caller has seen that the operation is whole and its runs lie inside
-// of the script.
-use calls::Call;
-use calls::Reply;
+// One operation of a script (docs/EXPORTS.md): the call that its code stands for, made through the pool's face of records, and its answer,
+// which goes to the output. A refused call answers its number and as many bytes as any other. The caller has seen that the operation is
+// whole and its runs lie inside of the script.
+use calls_gate::Call;
+use calls_gate::Reply;
 use device::Geometry;
 use device::Place;
 use reader::Op;
@@ -10,15 +10,13 @@ use table::Pool;
 ghost use mathlib.Core.Path.{_≡_};
 ghost use Prim.Native.Nat.{_+_, _^_, _≤_, _<_};
 ghost use lib.ListN.{length, replicate};
-ghost use Rattle.device.specs.Device.{dev};
-ghost use Rattle.table.specs.State.{bufs};
-ghost use Rattle.steps.specs.World.{lent};
-ghost use Rattle.gate.specs.Answers.{numberOf};
-ghost use Rattle.reader.specs.Format.{part};
+ghost use Rattle.steps.specs.World.{before, after};
+ghost use Rattle.reader.specs.Format.{lastCode, part};
 ghost use Rattle.reader.specs.Laws.{Held};
 ghost use Rattle.writer.specs.Writer.{shown, pours};
-ghost use Rattle.calls.specs.Calls.{replied, called};
-ghost use Rattle.dispatch.specs.Dispatch.{callP};
+ghost use Rattle.calls_gate.specs.Answers.{numberOf};
+ghost use Rattle.calls_gate.specs.Replies.{came};
+ghost use Rattle.calls_gate.specs.Calls.{callP};
 ghost use Rattle.operate.specs.Operate.{bit, onHandle, onPath, callOf, answerM, room, answeredM, opM, reached, spoken};
 
 // The place and the record after an operation, and how much was put out.
@@ -123,7 +121,10 @@ fn ask(
     buf: &mut [u8],
 ) -> Reply
     requires { ⌜ Held (now script) op ⌝ }
-    ensures { λ r. ⌜ called (replied r (now (bytes .exit)) (now (phys .exit)) (now (nums .exit)) (now (names .exit)) (now (dirs .exit))) (now (buf .exit)) ≡ callP (now (plan .entry)) geometry (callOf op) (part (now (script .entry)) (op .first)) (part (now (script .entry)) (op .second)) (now (buf .entry)) (lent (dev (now (bytes .entry)) (now (phys .entry)) place) (bufs pool (now (nums .entry)) (now (names .entry)) (now (dirs .entry)))) ⌝ }
+    ensures { λ r. ⌜
+        came (numberOf (r .answer)) (r .told) (after bytes phys (r .place) nums names dirs (r .pool)) (now (buf .exit))
+        ≡ callP (now (plan .entry)) geometry (callOf op) (part (now (script .entry)) (op .first)) (part (now (script .entry)) (op .second))
+        (now (buf .entry)) (before bytes phys place nums names dirs pool) ⌝ }
 {
     let call = call_of(op);
     let first = op.first;
@@ -159,18 +160,21 @@ fn bit(b: bool) -> u64
 
 // Puts out what a call came to: its number, what it tells, as wide as the table says, and the buffer.
 fn put_answer(op: Op, reply: Reply, buf: &[u8], out: &mut [u8], at: usize) -> usize
-    requires { ⌜ (op .code < 17) × (length (now buf) < 65536) × (at < 2 ^ 62) ⌝ }
-    ensures answer { λ r. ⌜ shown (now (out .exit)) r ≡ pours (answerM op (numberOf (reply .answer)) (reply .slot) (reply .generation) (reply .len) (reply .count) (reply .yes) (now (buf .entry))) (shown (now (out .entry)) at) ⌝ }
+    requires { ⌜ (op .code ≤ lastCode) × (length (now buf) < 65536) × (at < 2 ^ 62) ⌝ }
+    ensures answer { λ r. ⌜
+        shown (now (out .exit)) r
+        ≡ pours (answerM op (numberOf (reply .answer)) (reply .told) (now (buf .entry))) (shown (now (out .entry)) at) ⌝ }
     ensures few { λ r. ⌜ r ≤ at + 65600 ⌝ }
 {
+    let told = reply.told;
     let form = reader::form_of(op.code);
     let answer = reply.answer;
-    let a = writer::put_le(out, at, 1, gate::number(answer) as u64);
-    let b = writer::put_le(out, a, form.gives_slot, reply.slot as u64);
-    let c = writer::put_le(out, b, form.gives_generation, reply.generation);
-    let d = writer::put_le(out, c, form.gives_len, reply.len);
-    let e = writer::put_le(out, d, form.gives_count, reply.count as u64);
-    let f = writer::put_le(out, e, form.gives_yes, bit(reply.yes));
+    let a = writer::put_le(out, at, 1, calls_gate::number(answer) as u64);
+    let b = writer::put_le(out, a, form.gives_slot, told.slot as u64);
+    let c = writer::put_le(out, b, form.gives_generation, told.generation);
+    let d = writer::put_le(out, c, form.gives_len, told.len);
+    let e = writer::put_le(out, d, form.gives_count, told.count as u64);
+    let f = writer::put_le(out, e, form.gives_yes, bit(told.yes));
     writer::put_bytes(out, f, buf)
 }
 
@@ -191,8 +195,11 @@ fn answered(
     out: &mut [u8],
     at: usize,
 ) -> Ran
-    requires { ⌜ Held (now script) op × (op .code < 17) × (length (now buf) < 65536) × (at < 2 ^ 62) ⌝ }
-    ensures op { λ r. ⌜ reached (shown (now (out .exit)) (r .at)) (lent (dev (now (bytes .exit)) (now (phys .exit)) (r .place)) (bufs (r .pool) (now (nums .exit)) (now (names .exit)) (now (dirs .exit)))) ≡ spoken (answeredM (now (script .entry)) (now (plan .entry)) geometry op (now (buf .entry)) (lent (dev (now (bytes .entry)) (now (phys .entry)) place) (bufs pool (now (nums .entry)) (now (names .entry)) (now (dirs .entry))))) (shown (now (out .entry)) at) ⌝ }
+    requires { ⌜ Held (now script) op × (op .code ≤ lastCode) × (length (now buf) < 65536) × (at < 2 ^ 62) ⌝ }
+    ensures op { λ r. ⌜
+        reached (shown (now (out .exit)) (r .at)) (after bytes phys (r .place) nums names dirs (r .pool))
+        ≡ spoken (answeredM (now (script .entry)) (now (plan .entry)) geometry op (now (buf .entry))
+        (before bytes phys place nums names dirs pool)) (shown (now (out .entry)) at) ⌝ }
     ensures few { λ r. ⌜ r .at ≤ at + 65600 ⌝ }
 {
     let reply = ask(
@@ -223,7 +230,7 @@ fn answered(
 
 // How long a buffer the call is handed.
 fn room(op: Op) -> usize
-    requires { ⌜ op .code < 17 ⌝ }
+    requires { ⌜ op .code ≤ lastCode ⌝ }
     ensures { λ r. ⌜ r ≡ room op ⌝ }
 {
     let f = reader::form_of(op.code);
@@ -240,7 +247,8 @@ fn fresh() -> [u8; 65536]
     [170u8; 65536]
 }
 
-// Runs one operation, and puts out its answer. The large array is made only where a buffer is asked for: to fill it costs more than most calls.
+// Runs one operation, and puts out its answer. The large array is made only where a buffer is asked for: to fill it costs more than most
+// calls.
 pub fn step(
     bytes: &mut [u8],
     phys: &mut [u64],
@@ -256,8 +264,11 @@ pub fn step(
     out: &mut [u8],
     at: usize,
 ) -> Ran
-    requires { ⌜ Held (now script) op × (op .code < 17) × (op .n < 65536) × (at < 2 ^ 62) ⌝ }
-    ensures op { λ r. ⌜ reached (shown (now (out .exit)) (r .at)) (lent (dev (now (bytes .exit)) (now (phys .exit)) (r .place)) (bufs (r .pool) (now (nums .exit)) (now (names .exit)) (now (dirs .exit)))) ≡ spoken (opM (now (script .entry)) (now (plan .entry)) geometry op (lent (dev (now (bytes .entry)) (now (phys .entry)) place) (bufs pool (now (nums .entry)) (now (names .entry)) (now (dirs .entry))))) (shown (now (out .entry)) at) ⌝ }
+    requires { ⌜ Held (now script) op × (op .code ≤ lastCode) × (op .n < 65536) × (at < 2 ^ 62) ⌝ }
+    ensures op { λ r. ⌜
+        reached (shown (now (out .exit)) (r .at)) (after bytes phys (r .place) nums names dirs (r .pool))
+        ≡ spoken (opM (now (script .entry)) (now (plan .entry)) geometry op (before bytes phys place nums names dirs pool))
+        (shown (now (out .entry)) at) ⌝ }
     ensures few { λ r. ⌜ r .at ≤ at + 65600 ⌝ }
 {
     let n = room(op);

@@ -1,5 +1,6 @@
 // The order in which 01 lists and dumps paths: byte order of normal spelling. What is put in order are parts of a buffer that spell paths,
-// rows of slots or of directories alike; the paths stay where they are. The Rust has no such order: its listings are sets. Nothing is refused.
+// rows of slots or of directories alike; the paths stay where they are. The Rust has no such order: its listings are sets. Nothing is
+// refused.
 ghost use mathlib.Core.Path.{_≡_};
 ghost use mathlib.Core.List.{_∷_, _++_};
 ghost use Prim.Native.Nat.{_+_, _*_, _^_, _≤_, _<_};
@@ -36,7 +37,8 @@ fn comes_before(bytes: &[u8], x: u32, y: u32) -> bool
     }
 }
 
-// How many of the parts behind the first come before it or are level with it: they are in order, so a half of them is set aside at each look.
+// How many of the parts behind the first come before it or are level with it: they are in order, so a half of them is set aside at each
+// look.
 fn place_of(bytes: &[u8], spans: &[u32]) -> usize
     requires { ⌜ AllInside (now bytes) (now spans) × (0 < length (now spans)) × Risen (before (now bytes)) (drop 1 (now spans)) ⌝ }
     ensures { λ r. ⌜ r ≡ place (before (now (bytes .entry))) (getD (now (spans .entry)) 0 0) (drop 1 (now (spans .entry))) ⌝ }
@@ -58,7 +60,9 @@ fn place_of(bytes: &[u8], spans: &[u32]) -> usize
 // The first moves behind the k that follow it.
 fn move_first(spans: &mut [u32], k: usize)
     requires { ⌜ k < length (now spans) ⌝ }
-    ensures { λ _. ⌜ now (spans .exit) ≡ take k (drop 1 (now (spans .entry))) ++ (getD (now (spans .entry)) 0 0 ∷ drop (k + 1) (now (spans .entry))) ⌝ }
+    ensures { λ _. ⌜
+        now (spans .exit)
+        ≡ take k (drop 1 (now (spans .entry))) ++ (getD (now (spans .entry)) 0 0 ∷ drop (k + 1) (now (spans .entry))) ⌝ }
 {
     let x = spans[0];
     let mut j = 0;
@@ -119,7 +123,9 @@ pub fn dir_number(x: u32) -> usize
 // Writes the paths of all files, by slot, to the front of spans, and says how many they are.
 pub fn all_files(nums: &[u64], names: &[u8], cap: usize, n: usize, spans: &mut [u32]) -> usize
     requires { ⌜ Flat cap n (now nums) (now names) × (n ≤ 256) × (n ≤ length (now spans)) ⌝ }
-    ensures { λ r. ⌜ (r ≡ length (fileSpans (rowsOf (now (nums .entry)) (now (names .entry)) n))) × (now (spans .exit) ≡ sets (now (spans .entry)) 0 (fileSpans (rowsOf (now (nums .entry)) (now (names .entry)) n))) ⌝ }
+    ensures { λ r. ⌜
+        (r ≡ length (fileSpans (rowsOf (now (nums .entry)) (now (names .entry)) n)))
+        × (now (spans .exit) ≡ sets (now (spans .entry)) 0 (fileSpans (rowsOf (now (nums .entry)) (now (names .entry)) n))) ⌝ }
 {
     let mut count = 0;
     let mut i = 0;

@@ -1,15 +1,15 @@
 -- Laws of the key: it is that of the last component, and reads its last eight bytes.
 use Prim.Native.Nat.{ℕ, _+_, _-_, _*_, _/_, _%_, _≤_, _<_}
-use mathlib.Core.Path.{_≡_, refl, ap, _∙_}
+use mathlib.Core.Path.{_≡_, refl, sym, ap, _∙_}
 use mathlib.Core.List.{List, [], _∷_, _++_}
 use mathlib.Core.Bool.{Bool, true, false}
 use lib.Dec.{eqb}
 use lib.ListN.{length, take, drop, length-drop}
-use lib.Seq.{take-all, take-length, length-take-le}
+use lib.Seq.{take-all, take-length}
 use native.Mathlib.Omega.{arith}
 use borrow.Author.Tests.{eqb-true, eqb-false}
 use Rattle.le.specs.Le.{unle}
-use Rattle.path.specs.Path.{components, lastOf, tail8, mixed, keyOf}
+use Rattle.path.specs.Path.{components, lastOf, tail8, textKey, keyOf}
 use Rattle.path.specs.Walk.{Last}
 use Rattle.path.proofs.Backs.{last-none, last-some}
 
@@ -38,8 +38,11 @@ last-is s a e n = go (eqb a e) refl
         rw (last-none s a e n q, z)
     go false h = ap lastOf (last-some s a e n (eqb-false a e h)) ∙ last-snoc (components (take a s)) (take (e - a) (drop a s))
 
-pub key-is : (s : List ℕ) (a e x r : ℕ) → Last s a e → x ≡ tail8 (take (e - a) (drop a s)) → r ≡ (x % 4294967296 + x / 4294967296 * 31 + (e - a) % 65536) % 4294967296 → r ≡ keyOf s
-unfolding keyOf mixed
-key-is s a e x r n h q =
-    let k : length (take (e - a) (drop a s)) ≡ e - a = length-take-le (e - a) (drop a s) (omega (arith, length-drop a s, n .inside)) in
-    q ∙ rw (last-is s a e n, k, ← h)
+pub text-key-is : (s : List ℕ) (x r : ℕ) → x ≡ tail8 s → r ≡ (x % 4294967296 + x / 4294967296 * 31 + length s % 65536) % 4294967296
+    → r ≡ textKey s
+unfolding textKey
+text-key-is s x r h e = e ∙ ap (λ (y : ℕ). (y % 4294967296 + y / 4294967296 * 31 + length s % 65536) % 4294967296) h
+
+pub key-is : (s : List ℕ) (a e r : ℕ) → Last s a e → r ≡ textKey (take (e - a) (drop a s)) → r ≡ keyOf s
+unfolding keyOf
+key-is s a e r n h = h ∙ ap textKey (sym (last-is s a e n))

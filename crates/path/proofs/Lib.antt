@@ -5,3 +5,4 @@ pub mod Writes
 pub mod Parents
 pub mod Orders
 pub mod Keys
+pub mod Slashes

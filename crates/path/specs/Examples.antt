@@ -4,6 +4,7 @@ use mathlib.Core.List.{[], _∷_}
 use mathlib.Core.Bool.{true, false}
 use Rattle.lists.specs.Same.{same}
 use Rattle.path.specs.Path.{grow, cut, split, idle, names, opening, components, samePath, init, isRoot, hasParent, isParent, slash, join, normal, parentOf, fronts, ancestors}
+use Rattle.path.specs.Spelling.{idleSlash, hasIdle, isNormal}
 
 -- `a//b/` equals `a/b`
 slashes : samePath (97 ∷ 47 ∷ 47 ∷ 98 ∷ 47 ∷ []) (97 ∷ 47 ∷ 98 ∷ []) ≡ true
@@ -68,3 +69,40 @@ parent-of-root = refl
 ancestors-of-two : ancestors (47 ∷ 97 ∷ 47 ∷ 47 ∷ 98 ∷ []) ≡ (47 ∷ 97 ∷ []) ∷ (47 ∷ []) ∷ []
 unfolding ancestors fronts join slash isRoot components names idle split cut grow
 ancestors-of-two = refl
+
+-- ---- spellings that are normal, and such as are not
+
+-- `/` is normal
+normal-root : isNormal (47 ∷ []) ≡ true
+unfolding isNormal
+normal-root = refl
+
+-- `./a` is: a `.` stays as the very first part
+normal-dot-first : isNormal (46 ∷ 47 ∷ 97 ∷ []) ≡ true
+unfolding isNormal hasIdle idleSlash
+normal-dot-first = refl
+
+-- `/..` is
+normal-up : isNormal (47 ∷ 46 ∷ 46 ∷ []) ≡ true
+unfolding isNormal hasIdle idleSlash
+normal-up = refl
+
+-- `a//b` is not
+not-slashes : isNormal (97 ∷ 47 ∷ 47 ∷ 98 ∷ []) ≡ false
+unfolding isNormal hasIdle idleSlash
+not-slashes = refl
+
+-- `a/./b` is not
+not-dot-between : isNormal (97 ∷ 47 ∷ 46 ∷ 47 ∷ 98 ∷ []) ≡ false
+unfolding isNormal hasIdle idleSlash
+not-dot-between = refl
+
+-- `a/.` is not
+not-dot-last : isNormal (97 ∷ 47 ∷ 46 ∷ []) ≡ false
+unfolding isNormal hasIdle idleSlash
+not-dot-last = refl
+
+-- `a/` is not
+not-slash-last : isNormal (97 ∷ 47 ∷ []) ≡ false
+unfolding isNormal hasIdle idleSlash
+not-slash-last = refl

@@ -4,3 +4,5 @@ pub mod Walk
 pub mod Parts
 pub mod Theorems
 pub mod Ancestors
+pub mod Spelling
+pub mod SpellingLaws

@@ -126,10 +126,10 @@ lastOf (c ∷ d ∷ cs) = lastOf (d ∷ cs)
 unfoldable pub tail8 : List ℕ → ℕ
 tail8 c = unle (drop (length c - 8) c)
 
--- A number below 2^32 for a number of eight bytes and a length.
-unfoldable pub mixed : ℕ → ℕ → ℕ
-mixed x n = (x % 4294967296 + x / 4294967296 * 31 + n % 65536) % 4294967296
+-- The key of a text, whatever it spells, is worked out from its last eight bytes and its length. No document has it: it makes lookups fast.
+unfoldable pub textKey : List ℕ → ℕ
+textKey c = (tail8 c % 4294967296 + tail8 c / 4294967296 * 31 + length c % 65536) % 4294967296
 
--- The key of a path is worked out from its last component alone, so equal paths have one key. No document has it: it makes lookups fast.
+-- The key of a path is that of its last component alone, so equal paths have one key.
 unfoldable pub keyOf : List ℕ → ℕ
-keyOf s = mixed (tail8 (lastOf (components s))) (length (lastOf (components s)))
+keyOf s = textKey (lastOf (components s))

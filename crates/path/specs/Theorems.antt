@@ -120,3 +120,11 @@ order-of a b c d e f = rw (e, f)
 pub key-same : (a b : List ℕ) → samePath a b ≡ true → keyOf a ≡ keyOf b
 unfolding keyOf
 key-same a b e = rw (same-path a b .0 e)
+
+-- Paths of different keys are different.
+pub key-other : (a b : List ℕ) → (keyOf a ≡ keyOf b → ⊥) → samePath a b ≡ false
+key-other a b n = go (samePath a b) refl
+  where
+    go : (t : Bool) → samePath a b ≡ t → t ≡ false
+    go true e = absurd (n (key-same a b e))
+    go false e = refl

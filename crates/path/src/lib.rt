@@ -1,11 +1,13 @@
-// Paths as Rust's std::path has them on a platform with `/`: equality, the parent, the ancestors, normal spelling and the order of listings.
-// A path is its bytes: any bytes will do, and nothing is refused. All works on the given spelling, and nothing is copied but what is to be written.
+// Paths as Rust's std::path has them on a platform with `/`: equality, the parent, the ancestors, normal spelling and the order of
+// listings. A path is its bytes: any bytes will do, and nothing is refused. All works on the given spelling, and nothing is copied but
+// what is to be written.
 ghost use mathlib.Core.Path.{_≡_};
 ghost use Prim.Native.Nat.{_+_, _≤_};
 ghost use lib.ListN.{length, drop};
 ghost use Rattle.le.specs.Le.{laid};
 ghost use Rattle.lists.specs.Same.{sameBytes};
-ghost use Rattle.path.specs.Path.{samePath, isParent, slash, normal, parentOf, parentLen, pathOrder, tail8, keyOf};
+ghost use Rattle.path.specs.Path.{samePath, isParent, slash, normal, parentOf, parentLen, pathOrder, tail8, textKey, keyOf};
+ghost use Rattle.path.specs.Spelling.{idleSlash};
 ghost use Rattle.path.specs.Walk.{run, NextName, Next, Starts, Last, UpOf, Above, nameOrder, parentLaid};
 
 // A component of a path: its bytes stand from start to stop. Where the two are equal there is none.
@@ -17,7 +19,8 @@ struct Part {
 // The end of the part that starts at i: the first slash from i on, or the end of the text.
 fn part_end(s: &[u8], i: usize) -> usize
     requires { ⌜ i ≤ length (now s) ⌝ }
-    ensures { λ r. ⌜ (r ≡ i + run (drop i (now (s .entry)))) × (r ≤ length (now (s .entry))) ⌝ }
+    ensures ends { λ r. ⌜ r ≡ i + run (drop i (now (s .entry))) ⌝ }
+    ensures inside { λ r. ⌜ r ≤ length (now (s .entry)) ⌝ }
 {
     let mut e = i;
     while e < s.len() {
@@ -192,7 +195,8 @@ pub fn same_path(a: &[u8], b: &[u8]) -> bool
 // Copies src into dst from index at on, and returns the index behind it.
 fn put(dst: &mut [u8], at: usize, src: &[u8]) -> usize
     requires { ⌜ at + length (now src) ≤ length (now dst) ⌝ }
-    ensures { λ r. ⌜ (now (dst .exit) ≡ laid (now (dst .entry)) at (now (src .entry))) × (r ≡ at + length (now (src .entry))) ⌝ }
+    ensures laid { λ _. ⌜ now (dst .exit) ≡ laid (now (dst .entry)) at (now (src .entry)) ⌝ }
+    ensures behind { λ r. ⌜ r ≡ at + length (now (src .entry)) ⌝ }
 {
     let mut j = 0;
     while j < src.len() {
@@ -205,7 +209,8 @@ fn put(dst: &mut [u8], at: usize, src: &[u8]) -> usize
 // Writes a slash at index at if sep says so, and returns the index behind it.
 fn put_slash(dst: &mut [u8], at: usize, sep: bool) -> usize
     requires { ⌜ at + length (slash sep) ≤ length (now dst) ⌝ }
-    ensures { λ r. ⌜ (now (dst .exit) ≡ laid (now (dst .entry)) at (slash sep)) × (r ≡ at + length (slash sep)) ⌝ }
+    ensures laid { λ _. ⌜ now (dst .exit) ≡ laid (now (dst .entry)) at (slash sep) ⌝ }
+    ensures behind { λ r. ⌜ r ≡ at + length (slash sep) ⌝ }
 {
     if sep {
         dst[at] = b'/';
@@ -248,7 +253,8 @@ pub fn normal_len(s: &[u8]) -> usize
 // Writes the normal spelling of src to the front of dst, and returns its length.
 pub fn normalize(src: &[u8], dst: &mut [u8]) -> usize
     requires { ⌜ length (normal (now src)) ≤ length (now dst) ⌝ }
-    ensures { λ r. ⌜ (now (dst .exit) ≡ laid (now (dst .entry)) 0 (normal (now (src .entry)))) × (r ≡ length (normal (now (src .entry)))) ⌝ }
+    ensures laid { λ _. ⌜ now (dst .exit) ≡ laid (now (dst .entry)) 0 (normal (now (src .entry))) ⌝ }
+    ensures long { λ r. ⌜ r ≡ length (normal (now (src .entry))) ⌝ }
 {
     let mut at = 0;
     let mut out = 0;
@@ -300,7 +306,8 @@ pub fn is_parent(dir: &[u8], file: &[u8]) -> bool
 // Writes the normal spelling of src's parent to the front of dst, and says how long it is; without a parent nothing is written.
 pub fn parent(src: &[u8], dst: &mut [u8]) -> lists::Found
     requires { ⌜ length (parentOf (now src)) ≤ length (now dst) ⌝ }
-    ensures { λ r. ⌜ (r ≡ parentLen (now (src .entry))) × (now (dst .exit) ≡ parentLaid (now (dst .entry)) (now (src .entry))) ⌝ }
+    ensures long { λ r. ⌜ r ≡ parentLen (now (src .entry)) ⌝ }
+    ensures laid { λ _. ⌜ now (dst .exit) ≡ parentLaid (now (dst .entry)) (now (src .entry)) ⌝ }
 {
     let up = parent_end(src);
     match up {
@@ -401,6 +408,15 @@ fn tail_number(c: &[u8]) -> u64
     le::get_at(c, n - 8, 8)
 }
 
+// A key of a text, whatever it spells, from its last eight bytes and its length.
+pub fn text_key(c: &[u8]) -> u32
+    ensures { λ r. ⌜ r ≡ textKey (now (c .entry)) ⌝ }
+{
+    let x = tail_number(c);
+    let n = (c.len() % 65536) as u64;
+    ((x % 4294967296 + x / 4294967296 * 31 + n) % 4294967296) as u32
+}
+
 // A key for lookups, from the last component alone: equal paths have one key.
 pub fn key(s: &[u8]) -> u32
     ensures { λ r. ⌜ r ≡ keyOf (now (s .entry)) ⌝ }
@@ -408,7 +424,33 @@ pub fn key(s: &[u8]) -> u32
     let p = last(s);
     let a = p.start;
     let e = p.stop;
-    let x = tail_number(&s[a..e]);
-    let n = ((e - a) % 65536) as u64;
-    ((x % 4294967296 + x / 4294967296 * 31 + n) % 4294967296) as u32
+    text_key(&s[a..e])
+}
+
+// Whether a, of three bytes in a row, is a slash before a slash or before a part `.`.
+fn idle_slash(a: u8, b: u8, c: u8) -> bool
+    ensures { λ r. ⌜ r ≡ idleSlash a b c ⌝ }
+{
+    (a == b'/') & ((b == b'/') | ((b == b'.') & (c == b'/')))
+}
+
+// Whether s is its own normal spelling, told from its bytes alone: nothing is split, joined or copied. The Rust has no such test; in its
+// terms, whether `path.components().collect::<PathBuf>()` is the path byte for byte. The end of the text counts as a slash. The loop has
+// no early exit, so that many bytes are looked at in a turn.
+pub fn is_normal(s: &[u8]) -> bool
+    ensures { λ r. ⌜ r ≡ sameBytes (normal (now (s .entry))) (now (s .entry)) ⌝ }
+{
+    let n = s.len();
+    if n < 2 {
+        return true;
+    }
+    let mut bad = false;
+    let mut j = 0;
+    while j < n - 2 {
+        let idle = idle_slash(s[j], s[j + 1], s[j + 2]);
+        bad = bad | idle;
+        j += 1;
+    }
+    let idle = idle_slash(s[n - 2], s[n - 1], b'/');
+    !(bad | idle | (s[n - 1] == b'/'))
 }

@@ -1,7 +1,7 @@
 // The device calls over a lent place: "one small record that each device call moves on". Each thin call copies the record out, makes one
 // call of crate device on it by value, and stores the place that came of it back; its contract is that call's, with the record at entry and
 // at exit. What a call came to stands in the record alone (`last`): a read answers its count, and the others answer nothing.
-// A function that holds a place by value and lends it on serves callers that do not lend one: `put_block`, and `put_header` over it.
+// `put_header`, the one writer of headers, holds a place by value and lends it on, for callers that do not lend one.
 use device::Geometry;
 use device::Place;
 use header::Header;
@@ -9,8 +9,9 @@ ghost use mathlib.Core.Path.{_≡_};
 ghost use Prim.Native.Nat.{_≤_, _<_};
 ghost use lib.ListN.{length};
 ghost use Rattle.header.specs.Block.{maxPath, encoded};
-ghost use Rattle.device.specs.Device.{dev, Shape, flushed, read, headerReadM, headerWriteM, dataReadM, dataWriteM, dataTruncateM};
-ghost use Rattle.steps.specs.Steps.{putM};
+ghost use Rattle.device.specs.Device.{Shape, devBefore, devAfter, flushed, read};
+ghost use Rattle.device.specs.Device.{headerReadM, headerWriteM, dataReadM, dataWriteM, dataTruncateM};
+ghost use Rattle.places.specs.Put.{putM};
 
 // ---- the thin calls
 
@@ -26,7 +27,9 @@ pub fn header_read(
 ) -> usize
     requires { ⌜ Shape geometry (now bytes) (now phys) ⌝ }
     requires { ⌜ slot < length (now phys) ⌝ }
-    ensures { λ r. ⌜ read (now (into .exit)) (record { count = r; place = now (at .exit) }) ≡ headerReadM (now (plan .entry)) geometry slot (now (into .entry)) (dev (now (bytes .entry)) (now (phys .entry)) (now (at .entry))) ⌝ }
+    ensures { λ r. ⌜
+        read (now (into .exit)) (record { count = r; place = now (at .exit) })
+        ≡ headerReadM (now (plan .entry)) geometry slot (now (into .entry)) (devBefore bytes phys (now (at .entry))) ⌝ }
 {
     let got = device::header_read(bytes, phys, geometry, plan, *at, slot, into);
     *at = got.place;
@@ -45,7 +48,9 @@ pub fn header_write(
 )
     requires { ⌜ Shape geometry (now bytes) (now phys) ⌝ }
     requires { ⌜ slot < length (now phys) ⌝ }
-    ensures same { λ _. ⌜ dev (now (bytes .exit)) (now (phys .exit)) (now (at .exit)) ≡ headerWriteM (now (plan .entry)) geometry slot block (dev (now (bytes .entry)) (now (phys .entry)) (now (at .entry))) ⌝ }
+    ensures same { λ _. ⌜
+        devAfter bytes phys (now (at .exit))
+        ≡ headerWriteM (now (plan .entry)) geometry slot block (devBefore bytes phys (now (at .entry))) ⌝ }
     ensures kept { λ _. ⌜ Shape geometry (now (bytes .exit)) (now (phys .exit)) ⌝ }
 {
     *at = device::header_write(bytes, phys, geometry, plan, *at, slot, block);
@@ -64,7 +69,9 @@ pub fn data_read(
 ) -> usize
     requires { ⌜ Shape geometry (now bytes) (now phys) ⌝ }
     requires { ⌜ slot < length (now phys) ⌝ }
-    ensures { λ r. ⌜ read (now (dst .exit)) (record { count = r; place = now (at .exit) }) ≡ dataReadM (now (plan .entry)) geometry slot offset (now (dst .entry)) (dev (now (bytes .entry)) (now (phys .entry)) (now (at .entry))) ⌝ }
+    ensures { λ r. ⌜
+        read (now (dst .exit)) (record { count = r; place = now (at .exit) })
+        ≡ dataReadM (now (plan .entry)) geometry slot offset (now (dst .entry)) (devBefore bytes phys (now (at .entry))) ⌝ }
 {
     let got = device::data_read(bytes, phys, geometry, plan, *at, slot, offset, dst);
     *at = got.place;
@@ -84,7 +91,9 @@ pub fn data_write(
 )
     requires { ⌜ Shape geometry (now bytes) (now phys) ⌝ }
     requires { ⌜ slot < length (now phys) ⌝ }
-    ensures same { λ _. ⌜ dev (now (bytes .exit)) (now (phys .exit)) (now (at .exit)) ≡ dataWriteM (now (plan .entry)) geometry slot offset (now (src .entry)) (dev (now (bytes .entry)) (now (phys .entry)) (now (at .entry))) ⌝ }
+    ensures same { λ _. ⌜
+        devAfter bytes phys (now (at .exit))
+        ≡ dataWriteM (now (plan .entry)) geometry slot offset (now (src .entry)) (devBefore bytes phys (now (at .entry))) ⌝ }
     ensures kept { λ _. ⌜ Shape geometry (now (bytes .exit)) (now (phys .exit)) ⌝ }
 {
     *at = device::data_write(bytes, phys, geometry, plan, *at, slot, offset, src);
@@ -102,7 +111,9 @@ pub fn data_truncate(
 )
     requires { ⌜ Shape geometry (now bytes) (now phys) ⌝ }
     requires { ⌜ slot < length (now phys) ⌝ }
-    ensures same { λ _. ⌜ dev (now (bytes .exit)) (now (phys .exit)) (now (at .exit)) ≡ dataTruncateM (now (plan .entry)) geometry slot len (dev (now (bytes .entry)) (now (phys .entry)) (now (at .entry))) ⌝ }
+    ensures same { λ _. ⌜
+        devAfter bytes phys (now (at .exit))
+        ≡ dataTruncateM (now (plan .entry)) geometry slot len (devBefore bytes phys (now (at .entry))) ⌝ }
     ensures kept { λ _. ⌜ Shape geometry (now (bytes .exit)) (now (phys .exit)) ⌝ }
 {
     *at = device::data_truncate(bytes, phys, geometry, plan, *at, slot, len);
@@ -118,7 +129,7 @@ pub fn flush(plan: &[u8], at: &mut Place)
 // ---- over a place by value
 
 // Writes the slot's header block, and flushes it where that was done whole; the place after it.
-pub fn put_block(
+fn put_block(
     bytes: &mut [u8],
     phys: &mut [u64],
     geometry: Geometry,
@@ -129,7 +140,9 @@ pub fn put_block(
 ) -> Place
     requires { ⌜ Shape geometry (now bytes) (now phys) ⌝ }
     requires { ⌜ slot < length (now phys) ⌝ }
-    ensures same { λ r. ⌜ dev (now (bytes .exit)) (now (phys .exit)) r ≡ putM (now (plan .entry)) geometry slot block (dev (now (bytes .entry)) (now (phys .entry)) place) ⌝ }
+    ensures same { λ r. ⌜
+        devAfter bytes phys r
+        ≡ putM (now (plan .entry)) geometry slot block (devBefore bytes phys place) ⌝ }
     ensures kept { λ _. ⌜ Shape geometry (now (bytes .exit)) (now (phys .exit)) ⌝ }
 {
     let mut at = place;
@@ -141,7 +154,7 @@ pub fn put_block(
     at
 }
 
-// Writes the slot's header with its path, and flushes it: `steps::put_header`, through a lent place.
+// Writes the slot's header with its path, and flushes it. No other function writes a header.
 pub fn put_header(
     bytes: &mut [u8],
     phys: &mut [u64],
@@ -154,7 +167,9 @@ pub fn put_header(
 ) -> Place
     requires { ⌜ Shape geometry (now bytes) (now phys) × (slot < length (now phys)) ⌝ }
     requires { ⌜ (length (now path) ≡ header .«path_len») × (header .«path_len» ≤ maxPath) ⌝ }
-    ensures same { λ r. ⌜ dev (now (bytes .exit)) (now (phys .exit)) r ≡ putM (now (plan .entry)) geometry slot (encoded header (now (path .entry))) (dev (now (bytes .entry)) (now (phys .entry)) place) ⌝ }
+    ensures same { λ r. ⌜
+        devAfter bytes phys r
+        ≡ putM (now (plan .entry)) geometry slot (encoded header (now (path .entry))) (devBefore bytes phys place) ⌝ }
     ensures kept { λ _. ⌜ Shape geometry (now (bytes .exit)) (now (phys .exit)) ⌝ }
 {
     let block = header.encode(path);

@@ -1,12 +1,12 @@
-// The pool's public face: the sixteen calls over a lent place, "one small record", and slot rows that are "a lent run of records, one row a slot". One
-// entry loads the records into flat numbers, has crate dispatch make the call on those, and stores them back. So its contract is the flat call's, with
-// the place and the numbers of the records at entry and at exit. Any input may come. More than 64 records are no pool's: they are refused before they
-// are loaded.
-use calls::Call;
-use calls::Reply;
+// The pool's public face: the sixteen calls over a lent place, "one small record", and slot rows that are "a lent run of records, one row a
+// slot". One entry loads the records into flat numbers, has crate calls make the call on those, and stores them back. So its contract is
+// the flat call's, with the place and the numbers of the records at entry and at exit. Any input may come. More than 64 records are no
+// pool's: they are refused before they are loaded.
+use calls_gate::Answer;
+use calls_gate::Call;
+use calls_gate::Reply;
 use device::Geometry;
 use device::Place;
-use gate::Answer;
 use records::Slot;
 use table::Pool;
 ghost use mathlib.Core.Path.{_≡_};
@@ -17,21 +17,21 @@ ghost use Rattle.device.specs.Device.{dev};
 ghost use Rattle.table.specs.State.{bufs};
 ghost use Rattle.steps.specs.World.{lent};
 ghost use Rattle.records.specs.Records.{numsOf};
-ghost use Rattle.gate.specs.declared.Answer.the-variants.{NotPool, WrongShape};
+ghost use Rattle.calls_gate.specs.declared.Answer.the-variants.{NotPool, WrongShape};
 ghost use Rattle.mount.specs.Mount.{zeroPool};
-ghost use Rattle.intake.specs.Public.{zeroed};
-ghost use Rattle.calls.specs.Calls.{replied, called, quietly};
-ghost use Rattle.dispatch.specs.Dispatch.{callP};
-ghost use Rattle.dispatch.specs.Laws.{isMount};
+ghost use Rattle.calls_gate.specs.Table.{zeroed, takesOf};
+ghost use Rattle.calls_gate.specs.Replies.{replied, silently};
+ghost use Rattle.calls_gate.specs.Calls.{callP};
+ghost use Rattle.pool.specs.Face.{asked, left, Same, Placed};
 
 // ---- more than 64 records
 
 // How many of n records are made zero: all at a mount, else none.
 fn lost(call: Call, n: usize) -> usize
-    ensures { λ r. ⌜ r ≡ cond (isMount call) n 0 ⌝ }
+    ensures { λ r. ⌜ r ≡ cond (takesOf call .mounts) n 0 ⌝ }
 {
-    let coded = calls::numbers_of(call);
-    if coded.code == 1 {
+    let takes = calls_gate::takes_of(call);
+    if takes.mounts {
         return n;
     }
     0
@@ -39,22 +39,25 @@ fn lost(call: Call, n: usize) -> usize
 
 // The reply where there are more than 64 records: at a mount 2, and the paths and the directories are zero; else 1.
 fn too_many(place: Place, names: &mut [u8], dirs: &mut [u8], pool: Pool, call: Call) -> Reply
-    ensures reply { λ r. ⌜ r ≡ cond (isMount call) (quietly WrongShape place zeroPool) (quietly NotPool place pool) ⌝ }
-    ensures names { λ _. ⌜ now (names .exit) ≡ cond (isMount call) (zeroed (now (names .entry))) (now (names .entry)) ⌝ }
-    ensures dirs { λ _. ⌜ now (dirs .exit) ≡ cond (isMount call) (zeroed (now (dirs .entry))) (now (dirs .entry)) ⌝ }
+    ensures reply { λ r.
+        ⌜ r ≡ cond (takesOf call .mounts) (silently WrongShape place zeroPool) (silently NotPool place pool) ⌝ }
+    ensures names { λ _.
+        ⌜ now (names .exit) ≡ cond (takesOf call .mounts) (zeroed (now (names .entry))) (now (names .entry)) ⌝ }
+    ensures dirs { λ _.
+        ⌜ now (dirs .exit) ≡ cond (takesOf call .mounts) (zeroed (now (dirs .entry))) (now (dirs .entry)) ⌝ }
 {
-    let coded = calls::numbers_of(call);
-    if coded.code == 1 {
+    let takes = calls_gate::takes_of(call);
+    if takes.mounts {
         let n = names.len();
         rows::zero_in(names, 0, n);
         let d = dirs.len();
         rows::zero_in(dirs, 0, d);
         let zero = mount::zero();
         let refused = Answer::WrongShape;
-        return calls::quiet(refused, place, zero);
+        return calls_gate::silent(refused, place, zero);
     }
     let refused = Answer::NotPool;
-    calls::quiet(refused, place, pool)
+    calls_gate::silent(refused, place, pool)
 }
 
 // ---- at most 64
@@ -77,10 +80,15 @@ fn on_front(
     buf: &mut [u8],
 ) -> Reply
     requires { ⌜ n * 4 ≤ length (now nums) ⌝ }
-    ensures { λ r. ⌜ called (replied r (now (bytes .exit)) (now (phys .exit)) (take (n * 4) (now (nums .exit))) (now (names .exit)) (now (dirs .exit))) (now (buf .exit)) ≡ callP (now (plan .entry)) geometry call (now (first .entry)) (now (second .entry)) (now (buf .entry)) (lent (dev (now (bytes .entry)) (now (phys .entry)) place) (bufs pool (take (n * 4) (now (nums .entry))) (now (names .entry)) (now (dirs .entry)))) ⌝ }
+    ensures { λ r.
+        ⌜ replied r (now (bytes .exit)) (now (phys .exit)) (take (n * 4) (now (nums .exit))) (now (names .exit)) (now (dirs .exit))
+        (now (buf .exit))
+        ≡ callP (now (plan .entry)) geometry call (now (first .entry)) (now (second .entry)) (now (buf .entry))
+        (lent (dev (now (bytes .entry)) (now (phys .entry)) place)
+        (bufs pool (take (n * 4) (now (nums .entry))) (now (names .entry)) (now (dirs .entry)))) ⌝ }
 {
     let k = n * 4;
-    dispatch::call(
+    calls::make(
         bytes,
         phys,
         geometry,
@@ -115,7 +123,12 @@ fn enter(
     second: &[u8],
     buf: &mut [u8],
 ) -> Reply
-    ensures { λ r. ⌜ called (replied r (now (bytes .exit)) (now (phys .exit)) (numsOf (now (rows .exit))) (now (names .exit)) (now (dirs .exit))) (now (buf .exit)) ≡ callP (now (plan .entry)) geometry call (now (first .entry)) (now (second .entry)) (now (buf .entry)) (lent (dev (now (bytes .entry)) (now (phys .entry)) place) (bufs pool (numsOf (now (rows .entry))) (now (names .entry)) (now (dirs .entry)))) ⌝ }
+    ensures { λ r.
+        ⌜ replied r (now (bytes .exit)) (now (phys .exit)) (numsOf (now (rows .exit))) (now (names .exit)) (now (dirs .exit))
+        (now (buf .exit))
+        ≡ callP (now (plan .entry)) geometry call (now (first .entry)) (now (second .entry)) (now (buf .entry))
+        (lent (dev (now (bytes .entry)) (now (phys .entry)) place)
+        (bufs pool (numsOf (now (rows .entry))) (now (names .entry)) (now (dirs .entry)))) ⌝ }
 {
     let n = rows.len();
     if 64 < n {
@@ -160,8 +173,10 @@ pub fn call(
     second: &[u8],
     buf: &mut [u8],
 ) -> Reply
-    ensures same { λ r. ⌜ called (replied r (now (bytes .exit)) (now (phys .exit)) (numsOf (now (rows .exit))) (now (names .exit)) (now (dirs .exit))) (now (buf .exit)) ≡ callP (now (plan .entry)) geometry call (now (first .entry)) (now (second .entry)) (now (buf .entry)) (lent (dev (now (bytes .entry)) (now (phys .entry)) (now (at .entry))) (bufs pool (numsOf (now (rows .entry))) (now (names .entry)) (now (dirs .entry)))) ⌝ }
-    ensures place { λ r. ⌜ now (at .exit) ≡ r .place ⌝ }
+    ensures same { λ r.
+        ⌜ Same (asked bytes phys geometry plan at rows names dirs pool call first second buf)
+        (left r bytes phys at rows names dirs buf) ⌝ }
+    ensures place { λ r. ⌜ Placed (left r bytes phys at rows names dirs buf) ⌝ }
 {
     let reply = enter(
         bytes,

@@ -1,14 +1,14 @@
--- Mount and adopt of a real pool are the model's where no header read fails or is cut short (`accepted-runs`), and one that came to 0 is one that the model
--- accepts (`came-accepts`). The reads carry it: each gives the slot's block, and only the plan's place moves.
+-- Mount and adopt of a real pool are the model's where no header read fails or is cut short (`accepted-runs`), and one that came to 0 is
+-- one that the model accepts (`came-accepts`). The reads carry it: each gives the slot's block, and only the plan's place moves.
 use Prim.Native.Nat.{ℕ, zero, suc, _+_, _-_, _^_, _≤_, _<_, min}
 use native.Mathlib.Nat.{add-zero}
 use native.Mathlib.Omega.{arith}
 use mathlib.Core.Path.{_≡_, refl, sym, ap, ap₂, subst, _∙_}
 use mathlib.Core.Logic.{_≢_}
-use mathlib.Core.Bool.{Bool, true, false, cond, not, _||_, false≢true}
+use mathlib.Core.Bool.{Bool, true, false, cond, not}
 use mathlib.Core.List.{List, [], _∷_, append-nil}
 use lib.Dec.{eqb, ltb}
-use lib.ListN.{length, getD, List·getD-eq-default}
+use lib.ListN.{length, getD, length-map, List·getD-eq-default}
 use borrow.Author.Tests.{ne-eqb, ltb-false, le-ltb}
 use Rattle.lists.specs.Runs.{tab}
 use Rattle.device.specs.declared.Place.{Place}
@@ -20,18 +20,20 @@ use Rattle.device.specs.Keeps.{be-may}
 use Rattle.device.specs.Memory.{memory}
 use Rattle.dirs.specs.Dirs.{Dirs}
 use Rattle.table.specs.State.{State}
-use Rattle.steps.specs.World.{World, world}
+use Rattle.steps.specs.World.{World}
 use Rattle.steps.specs.Steps.{releaseM}
 use Rattle.steps.specs.Laws.{release-is}
+use Rattle.steps.specs.Outcome.{Outcome, None, only}
 use Rattle.survey.specs.Heads.{headOf, Reads, behind, looked, readsM}
 use Rattle.survey.specs.Survey.{Survey}
 use Rattle.survey.specs.Survey as S
-use Rattle.mount.specs.Mount.{Came, came, begin, installed, drain, moved, settle, afterReads, tooMany, adoptM}
+use Rattle.mount.specs.Mount.{begin, installed, drain, moved, settle, afterReads, tooMany, adoptM}
+use Rattle.mount.specs.Laws.{room-for}
 use Rattle.model.specs.Model.{Kit}
 use Rattle.model.specs.Model as M
 use Rattle.promises.specs.Demand3.{headerAt, Untouched, reading, surveyed, standing}
 use Rattle.promises.proofs.Kit.{said, looks, realKit}
-use Rattle.promises.proofs.Bridge.{plain, map-length, shown, shownW, pooled, scan-is, scan-dirs, drain-is}
+use Rattle.promises.proofs.Bridge.{plain, shown, shownW, pooled, scan-is, scan-dirs, drain-is}
 
 -- ---- the reads
 
@@ -46,7 +48,8 @@ untouched-next : (plan : List ℕ) (k o : ℕ) (p : Place) → Untouched plan (s
 unfolding Untouched after
 untouched-next plan k o p u j l = go (ltb (p .at) (length plan)) refl
   where
-    go : (t : Bool) → ltb (p .at) (length plan) ≡ t → (getD plan (cond t (p .at + 1) (p .at) + j) 0 ≢ 1) × (getD plan (cond t (p .at + 1) (p .at) + j) 0 ≢ 2)
+    go : (t : Bool) → ltb (p .at) (length plan) ≡ t
+        → (getD plan (cond t (p .at + 1) (p .at) + j) 0 ≢ 1) × (getD plan (cond t (p .at + 1) (p .at) + j) 0 ≢ 2)
     go true e = let q : p .at + 1 + j ≡ p .at + suc j = omega arith in rw q (u (suc j) (omega arith))
     go false e =
         let h : length plan ≤ p .at = ltb-false (p .at) (length plan) e in
@@ -57,11 +60,13 @@ passed t x y e = rw e
 
 module _ (g : Geometry) (plan : List ℕ) where
   -- a read that is not touched gives the block
-  read-is : (d : Dev) (i : ℕ) → Shape g (d .bytes) (d .phys) → i < length (d .phys) → (turn plan (d .place) ≢ 1) × (turn plan (d .place) ≢ 2)
+  read-is : (d : Dev) (i : ℕ) → Shape g (d .bytes) (d .phys) → i < length (d .phys)
+      → (turn plan (d .place) ≢ 1) × (turn plan (d .place) ≢ 2)
       → given plan g i 0 512 d ≡ blockOf g i d
   unfolding stops
   read-is d i s r u =
-      let calm : not (stops (turn plan (d .place))) ≡ true = rw (ne-eqb (turn plan (d .place)) 1 (u .0), ne-eqb (turn plan (d .place)) 2 (u .1)) in
+      let calm : not (stops (turn plan (d .place))) ≡ true =
+      rw (ne-eqb (turn plan (d .place)) 1 (u .0), ne-eqb (turn plan (d .place)) 2 (u .1)) in
       rw (be-may plan g d (look i) s r refl) at (memory plan g .looked d i (memory plan g .calm-ok d (look i) s r refl calm tt))
 
   reads-are : (k i : ℕ) (d : Dev) → Shape g (d .bytes) (d .phys) → i + k ≤ length (d .phys) → Untouched plan k (d .place)
@@ -85,17 +90,15 @@ module _ (g : Geometry) (plan : List ℕ) where
 -- ---- what releases leave
 
 module _ (g : Geometry) (plan : List ℕ) where
-  drain-keeps : {A : Type 0} (f : State → A) → ((i : ℕ) (w : World) → f (releaseM plan g i w .state) ≡ f (w .state)) → (is : List ℕ) (w : World)
+  drain-keeps : {A : Type 0} (f : State → A) → ((i : ℕ) (w : World) → f (releaseM plan g i w .state) ≡ f (w .state))
+      → (is : List ℕ) (w : World)
       → f (drain plan g is w .state) ≡ f (w .state)
   unfolding drain
   drain-keeps f h [] w = refl
   drain-keeps f h (i ∷ is) w = drain-keeps f h is (releaseM plan g i w) ∙ h i w
 
-  drain-cap : (is : List ℕ) (w : World) → drain plan g is w .state .cap ≡ w .state .cap
-  drain-cap = drain-keeps (λ (s : State). s .cap) (λ i w. ap (λ (s : State). s .cap) (release-is plan g i w))
-
-  drain-dirCap : (is : List ℕ) (w : World) → drain plan g is w .state .dirCap ≡ w .state .dirCap
-  drain-dirCap = drain-keeps (λ (s : State). s .dirCap) (λ i w. ap (λ (s : State). s .dirCap) (release-is plan g i w))
+  drain-chosen : (is : List ℕ) (w : World) → drain plan g is w .state .chosen ≡ w .state .chosen
+  drain-chosen = drain-keeps (λ (s : State). s .chosen) (λ i w. ap (λ (s : State). s .chosen) (release-is plan g i w))
 
   drain-dirs : (is : List ℕ) (w : World) → drain plan g is w .state .dirs ≡ w .state .dirs
   drain-dirs = drain-keeps (λ (s : State). s .dirs) (λ i w. ap (λ (s : State). s .dirs) (release-is plan g i w))
@@ -103,15 +106,15 @@ module _ (g : Geometry) (plan : List ℕ) where
 -- ---- an adoption
 
 -- The call came to 0, and its pool is the model's state s.
-pub record Runs (g : Geometry) (plan : List ℕ) (w : World) (c : Came) (s : M.State (realKit g)) : Type 0 where
+pub record Runs (g : Geometry) (plan : List ℕ) (w : World) (c : Outcome None World) (s : M.State (realKit g)) : Type 0 where
   pub out : c .out ≡ 0
   pub losers : List ℕ
-  pub shows : shownW g plan losers (c .world) ≡ s
-  pub cap : c .world .state .cap ≡ w .state .cap
-  pub dirCap : c .world .state .dirCap ≡ w .state .dirCap
-  pub dirs : Dirs (c .world .state .dirs)
+  pub shows : shownW g plan losers (c .left) ≡ s
+  pub chosen : c .left .state .chosen ≡ w .state .chosen
+  pub dirs : Dirs (c .left .state .dirs)
 
-module _ (g : Geometry) (plan : List ℕ) (k : ℕ) (w : World) (s : Shape g (w .dev .bytes) (w .dev .phys)) (D : Dirs (w .state .dirs)) (u : Untouched plan k (w .dev .place)) where
+module _ (g : Geometry) (plan : List ℕ) (k : ℕ) (w : World) (s : Shape g (w .dev .bytes) (w .dev .phys)) (D : Dirs (w .state .dirs))
+    (u : Untouched plan k (w .dev .place)) where
   abbrev K : Kit
   K = realKit g
 
@@ -129,13 +132,14 @@ module _ (g : Geometry) (plan : List ℕ) (k : ℕ) (w : World) (s : Shape g (w 
   left = moved (reading plan g k w .place) w
 
   abbrev crowded : Bool
-  crowded = ltb (w .state .dirCap) (length (v .dirs))
+  crowded = ltb (w .state .chosen .«dir_rows») (length (v .dirs))
 
   abbrev spent : Bool
   spent = ltb (2 ^ 63) (v .counter + length (v .losers))
 
   module _ (room : n + k ≤ length (w .dev .phys)) where
-    pub reading-is : reading plan g k w ≡ record { failed = false; heads = tab (headerAt g (w .dev)) n k; place = looks plan k (w .dev) .place }
+    pub reading-is : reading plan g k w
+        ≡ record { failed = false; heads = tab (headerAt g (w .dev)) n k; place = looks plan k (w .dev) .place }
     unfolding reading
     reading-is = reads-are g plan k n (w .dev) s room u
 
@@ -164,7 +168,7 @@ module _ (g : Geometry) (plan : List ℕ) (k : ℕ) (w : World) (s : Shape g (w 
         ∙ ap (M.drain K (v .losers)) standing-is
         ∙ ap (λ (x : M.State K). M.drain K (x .losers) x) (sym (survey-is ls))
 
-    done-runs : (ls : List ℕ) → Runs g plan w (came 0 done) (M.adopt K k (shownW g plan ls w))
+    done-runs : (ls : List ℕ) → Runs g plan w (only 0 done) (M.adopt K k (shownW g plan ls w))
     unfolding standing installed surveyed
     done-runs ls =
         let b = standing plan g k w in
@@ -172,41 +176,47 @@ module _ (g : Geometry) (plan : List ℕ) (k : ℕ) (w : World) (s : Shape g (w 
           out = refl;
           losers = v .losers;
           shows = adopt-is ls;
-          cap = drain-cap g plan (v .losers) b;
-          dirCap = drain-dirCap g plan (v .losers) b;
-          dirs = subst Dirs (sym (drain-dirs g plan (v .losers) b)) (scan-dirs g plan (w .dev) [] (reading plan g k w .heads) (begin (w .state)) D);
+          chosen = drain-chosen g plan (v .losers) b;
+          dirs =
+              subst Dirs (sym (drain-dirs g plan (v .losers) b))
+              (scan-dirs g plan (w .dev) [] (reading plan g k w .heads) (begin (w .state)) D);
         }
 
     pub surveyed-is : v ≡ S.scan (tab (headerAt g (w .dev)) n k) (begin (w .state))
     unfolding surveyed
     surveyed-is = ap (λ (r : Reads). S.scan (r .heads) (begin (w .state))) reading-is
 
-    pub settled : tooMany k w ≡ false → adoptM plan g k w ≡ cond crowded (came 8 left) (cond spent (came 9 left) (came 0 done))
+    pub settled : tooMany k w ≡ false → adoptM plan g k w ≡ cond crowded (only 8 left) (cond spent (only 9 left) (only 0 done))
     unfolding adoptM afterReads settle reading surveyed standing
     settled t = let f : reading plan g k w .failed ≡ false = ap (λ (r : Reads). r .failed) reading-is in rw (t, f)
 
-  pub not-many : n + k ≤ w .state .cap → n + k ≤ length (w .dev .phys) → tooMany k w ≡ false
+  pub not-many : n + k ≤ w .state .chosen .rows → n + k ≤ length (w .dev .phys) → tooMany k w ≡ false
   unfolding tooMany
-  not-many a b = rw (le-ltb (w .state .cap - n) k (omega arith), le-ltb (length (w .dev .phys) - n) k (omega arith))
+  not-many a b = rw (le-ltb (w .state .chosen .rows - n) k (omega arith), le-ltb (length (w .dev .phys) - n) k (omega arith))
 
   -- where the model accepts it, so does the pool
-  module _ (slots : ℕ) (ls : List ℕ) (a : slots ≤ w .state .cap) (b : slots ≤ length (w .dev .phys)) (A : M.Accepts K slots (w .state .dirCap) k (shownW g plan ls w)) where
+  module _ (slots : ℕ) (ls : List ℕ) (a : slots ≤ w .state .chosen .rows) (b : slots ≤ length (w .dev .phys))
+      (A : M.Accepts K slots (w .state .chosen .«dir_rows») k (shownW g plan ls w)) where
     fit : n + k ≤ slots
-    fit = omega (arith, map-length plain (w .state .rows), A .slots-fit)
+    fit = omega (arith, length-map (w .state .rows) plain, A .slots-fit)
 
-    pub accepted-is : adoptM plan g k w ≡ came 0 done
+    pub accepted-is : adoptM plan g k w ≡ only 0 done
     accepted-is =
         let l = fit in
         let room : n + k ≤ length (w .dev .phys) = omega arith in
         let e = survey-is room ls in
-        let x : crowded ≡ false = le-ltb (w .state .dirCap) (length (v .dirs)) (omega (arith, ap (λ (z : M.State K). length (z .dirs)) e, A .dirs-fit)) in
-        let y : spent ≡ false = le-ltb (2 ^ 63) (v .counter + length (v .losers)) (omega (arith, ap (λ (z : M.State K). z .counter + length (z .losers)) e, A .gens-fit)) in
+        let x : crowded ≡ false =
+        le-ltb (w .state .chosen .«dir_rows») (length (v .dirs)) (omega (arith, ap (λ (z : M.State K). length (z .dirs)) e, A .dirs-fit)) in
+        let y : spent ≡ false =
+        le-ltb (2 ^ 63) (v .counter + length (v .losers))
+        (omega (arith, ap (λ (z : M.State K). z .counter + length (z .losers)) e, A .gens-fit)) in
         settled room (not-many (omega arith) room) ∙ rw (x, y)
 
     pub accepted-runs : Runs g plan w (adoptM plan g k w) (M.adopt K k (shownW g plan ls w))
     accepted-runs =
         let l = fit in
-        subst (λ (c : Came). Runs g plan w c (M.adopt K k (shownW g plan ls w))) (sym accepted-is) (done-runs (omega arith) ls)
+        subst (λ (c : Outcome None World). Runs g plan w c (M.adopt K k (shownW g plan ls w))) (sym accepted-is)
+        (done-runs (omega arith) ls)
 
   -- and where it came to 0, the model accepts it
 
@@ -214,34 +224,33 @@ module _ (g : Geometry) (plan : List ℕ) (k : ℕ) (w : World) (s : Shape g (w 
   unfolding adoptM
   refused t = rw t
 
-  either-not : (p q : Bool) → (p || q) ≡ false → (p ≡ false) × (q ≡ false)
-  either-not true q e = absurd (false≢true (sym e))
-  either-not false q e = (refl, e)
+  fits : n ≤ w .state .chosen .rows → n ≤ length (w .dev .phys) → tooMany k w ≡ false
+      → n + k ≤ min (w .state .chosen .rows) (length (w .dev .phys))
+  fits a b t = let c = room-for k w t in omega (arith, c .0, c .1)
 
-  fits : n ≤ w .state .cap → n ≤ length (w .dev .phys) → tooMany k w ≡ false → n + k ≤ min (w .state .cap) (length (w .dev .phys))
-  unfolding tooMany
-  fits a b t =
-      let c = either-not (ltb (w .state .cap - n) k) (ltb (length (w .dev .phys) - n) k) t in
-      omega (arith, ltb-false (w .state .cap - n) k (c .0), ltb-false (length (w .dev .phys) - n) k (c .1))
-
-  pub came-accepts : (ls : List ℕ) → n ≤ w .state .cap → n ≤ length (w .dev .phys) → adoptM plan g k w .out ≡ 0
-      → M.Accepts K (min (w .state .cap) (length (w .dev .phys))) (w .state .dirCap) k (shownW g plan ls w)
+  pub came-accepts : (ls : List ℕ) → n ≤ w .state .chosen .rows → n ≤ length (w .dev .phys) → adoptM plan g k w .out ≡ 0
+      → M.Accepts K (min (w .state .chosen .rows) (length (w .dev .phys))) (w .state .chosen .«dir_rows») k (shownW g plan ls w)
   came-accepts ls a b z = go (tooMany k w) refl
     where
-      fewer : (p q : Bool) → cond p (came 8 left) (cond q (came 9 left) (came 0 done)) .out ≡ 0 → (p ≡ false) × (q ≡ false)
+      fewer : (p q : Bool) → cond p (only 8 left) (cond q (only 9 left) (only 0 done)) .out ≡ 0 → (p ≡ false) × (q ≡ false)
       fewer true q e = absurd (omega (arith, e))
       fewer false true e = absurd (omega (arith, e))
       fewer false false e = (refl, refl)
 
-      go : (t : Bool) → tooMany k w ≡ t → M.Accepts K (min (w .state .cap) (length (w .dev .phys))) (w .state .dirCap) k (shownW g plan ls w)
+      go : (t : Bool) → tooMany k w ≡ t
+          → M.Accepts K (min (w .state .chosen .rows) (length (w .dev .phys))) (w .state .chosen .«dir_rows») k (shownW g plan ls w)
       go true t = absurd (omega (arith, refused t, z))
       go false t =
           let l = fits a b t in
           let room : n + k ≤ length (w .dev .phys) = omega arith in
           let e = survey-is room ls in
-          let c = fewer (crowded) (spent) (ap (λ (x : Came). x .out) (sym (settled room t)) ∙ z) in
+          let c = fewer (crowded) (spent) (ap (λ (x : Outcome None World). x .out) (sym (settled room t)) ∙ z) in
           record {
-            slots-fit = omega (arith, map-length plain (w .state .rows));
-            dirs-fit = omega (arith, ap (λ (x : M.State K). length (x .dirs)) e, ltb-false (w .state .dirCap) (length (v .dirs)) (c .0));
-            gens-fit = omega (arith, ap (λ (x : M.State K). x .counter + length (x .losers)) e, ltb-false (2 ^ 63) (v .counter + length (v .losers)) (c .1));
+            slots-fit = omega (arith, length-map (w .state .rows) plain);
+            dirs-fit =
+                let few = ltb-false (w .state .chosen .«dir_rows») (length (v .dirs)) (c .0) in
+                omega (arith, ap (λ (x : M.State K). length (x .dirs)) e, few);
+            gens-fit =
+                let low = ltb-false (2 ^ 63) (v .counter + length (v .losers)) (c .1) in
+                omega (arith, ap (λ (x : M.State K). x .counter + length (x .losers)) e, low);
           }

@@ -1,5 +1,5 @@
--- The next mount, under any plan: to the model a pool and its device are the same under another plan, since the headers are, and so the model's next mount
--- is one under that plan.
+-- The next mount, under any plan: to the model a pool and its device are the same under another plan, since the headers are, and so the
+-- model's next mount is one under that plan.
 use Prim.Native.Nat.{ℕ}
 use native.Mathlib.Nat.{zero-add}
 use mathlib.Core.Path.{refl, sym, subst}
@@ -28,9 +28,11 @@ module _ (g : Geometry) (plan : List ℕ) (p : Place) where
   under w = planned plan (dev (w .dev .bytes) (w .dev .phys) p)
 
   abbrev pub turned : M.State K → M.State K
-  turned s = record { rows = s .rows; queue = s .queue; losers = s .losers; dirs = s .dirs; counter = s .counter; device = under (s .device) }
+  turned s =
+      record { rows = s .rows; queue = s .queue; losers = s .losers; dirs = s .dirs; counter = s .counter; device = under (s .device) }
 
-  module _ (N : ℕ) (H : ℕ → M.Head (List ℕ)) (k : ℕ) (s : M.State K) (Q : Pool K N H k s) (C : Card K H s) (R : B.Registered K H k (s .dirs)) where
+  module _ (N : ℕ) (H : ℕ → M.Head (List ℕ)) (k : ℕ) (s : M.State K) (Q : Pool K N H k s) (C : Card K H s)
+      (R : B.Registered K H k (s .dirs)) where
     abbrev after : M.State K
     after = M.mount K k (under (s .device))
 
@@ -39,7 +41,15 @@ module _ (g : Geometry) (plan : List ℕ) (p : Place) where
     pool =
         let F = Q .fit in
         record {
-          fit = record { holders = F .holders; has = F .has; room = F .room; ahead = F .ahead; listed = F .listed; claimed = F .claimed; queued = F .queued };
+          fit = record {
+            holders = F .holders;
+            has = F .has;
+            room = F .room;
+            ahead = F .ahead;
+            listed = F .listed;
+            claimed = F .claimed;
+            queued = F .queued;
+          };
           size = Q .size;
         }
 
@@ -65,4 +75,6 @@ module _ (g : Geometry) (plan : List ℕ) (p : Place) where
           demand-of-all K N dirRows 0 k (s .device) (under (s .device)) (Q .fit .has) (Q .fit .has) (λ i l. refl) z .both-accepted
 
       pub next-free : Calm K s [] → P.SameFree K (turned s) after
-      next-free c = again-free K N H k (turned s) pool (now K N H k (turned s) pool card R) (calm c) dirRows next-accepts next-files (again-pool K N H k (turned s) pool card R)
+      next-free c =
+          again-free K N H k (turned s) pool (now K N H k (turned s) pool card R) (calm c) dirRows next-accepts next-files
+          (again-pool K N H k (turned s) pool card R)

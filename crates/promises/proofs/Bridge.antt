@@ -1,11 +1,12 @@
--- The survey and the releases of a real pool are the model's, its dirty bits forgotten: one slot (`step-is`), all of them (`scan-is`), the releases (`drain-is`).
+-- The survey and the releases of a real pool are the model's, its dirty bits forgotten: one slot (`step-is`), all of them (`scan-is`),
+-- the releases (`drain-is`).
 use Prim.Native.Nat.{ℕ, zero, suc, _+_}
 use native.Mathlib.Numerals.{add-one}
 use mathlib.Core.Path.{_≡_, refl, sym, ap, ap₂, _∙_}
 use mathlib.Core.Logic.{⊎-elim}
 use mathlib.Core.Bool.{Bool, true, false, cond, _||_}
-use mathlib.Core.List.{List, [], _∷_, _++_, map, append-assoc, List·Memᴰ·head, List·Memᴰ·tail}
-use lib.ListN.{length, set, getD}
+use mathlib.Core.List.{List, [], _∷_, _++_, map, map-append, append-assoc, List·Memᴰ·head, List·Memᴰ·tail}
+use lib.ListN.{length, set, length-map, List·getD-map}
 use lib.Dec.{leb}
 use Rattle.lists.specs.Runs.{tab}
 use Rattle.lists.specs.Same.{sameBytes}
@@ -19,9 +20,10 @@ use Rattle.rows.specs.Rows.{Row, unbound, bound, none, at, holds, find}
 use Rattle.dirs.specs.Dirs.{Normals, Dirs, hasPath, registered, joinedEach}
 use Rattle.dirs.specs.Laws.{ancestors-dirs, registered-dirs, one-by-one}
 use Rattle.table.specs.State.{State}
+use Rattle.table.specs.Queue.{spent, queued}
+use Rattle.table.specs.Changes.{withRow}
 use Rattle.steps.specs.World.{World}
-use Rattle.steps.specs.Steps.{fineM, freeM, releaseM}
-use Rattle.steps.specs.Laws.{release-is}
+use Rattle.steps.specs.Steps.{fineM, freeM, unbinds, released, releaseM}
 use Rattle.survey.specs.Heads.{Head, absent, idle, claim}
 use Rattle.survey.specs.Survey.{Survey}
 use Rattle.survey.specs.Survey as S
@@ -33,31 +35,17 @@ use Rattle.promises.proofs.Kit.{planned, claimOf, said, realKit}
 
 -- ---- lists
 
-module _ {A B : Type 0} (f : A → B) where
-  pub map-length : (l : List A) → length (map f l) ≡ length l
-  map-length [] = refl
-  map-length (x ∷ l) = ap suc (map-length l)
-
-  map-snoc : (l : List A) (x : A) → map f (l ++ (x ∷ [])) ≡ map f l ++ (f x ∷ [])
-  map-snoc [] x = refl
-  map-snoc (y ∷ l) x = ap (λ (t : List B). f y ∷ t) (map-snoc l x)
-
-  map-set : (l : List A) (i : ℕ) (x : A) → map f (set l i x) ≡ set (map f l) i (f x)
-  map-set [] i x = refl
-  map-set (y ∷ l) zero x = refl
-  map-set (y ∷ l) (suc i) x = ap (λ (t : List B). f y ∷ t) (map-set l i x)
-
-  map-at : (l : List A) (i : ℕ) (x : A) → getD (map f l) i (f x) ≡ f (getD l i x)
-  map-at [] i x = refl
-  map-at (y ∷ l) zero x = refl
-  map-at (y ∷ l) (suc i) x = map-at l i x
+map-set : {A B : Type 0} (f : A → B) (l : List A) (i : ℕ) (x : A) → map f (set l i x) ≡ set (map f l) i (f x)
+map-set f [] i x = refl
+map-set f (y ∷ l) zero x = refl
+map-set {B = B} f (y ∷ l) (suc i) x = ap (λ (t : List B). f y ∷ t) (map-set f l i x)
 
 -- ---- rows
 
 -- a row without its dirty bit
 abbrev pub plain : Row → M.Row (List ℕ)
 plain (unbound e) = M.unbound e
-plain (bound p e l d) = M.bound (claimOf p e l)
+plain (bound p f) = M.bound (claimOf p (f .gen) (f .len))
 
 same-flip : (p q : List ℕ) → samePath p q ≡ samePath q p
 same-flip p q = go (samePath p q) (samePath q p) refl refl
@@ -77,13 +65,13 @@ module _ (g : Geometry) where
   K = realKit g
 
   pub rows-at : (rs : List Row) (i : ℕ) → M.rowAt K (map plain rs) i ≡ plain (at rs i)
-  rows-at rs i = map-at plain rs i none
+  rows-at rs i = List·getD-map plain rs i none
 
   pub find-is : (p : List ℕ) (rs : List Row) → find p rs ≡ M.find K p (map plain rs)
   unfolding find M.find holds
   find-is p [] = refl
   find-is p (unbound e ∷ rs) = ap suc (find-is p rs)
-  find-is p (bound q e l d ∷ rs) = rw (same-flip q p, find-is p rs)
+  find-is p (bound q f ∷ rs) = rw (same-flip q p, find-is p rs)
 
   -- ---- directories, which are normal
 
@@ -91,7 +79,8 @@ module _ (g : Geometry) where
   unfolding hasPath M.has
   has-is [] x n e = refl
   has-is (d ∷ ds) x n e =
-      ap₂ (λ (t u : Bool). cond t true u) (same-flip d x ∙ normal-bytes x d e (n d (List·Memᴰ·head refl))) (has-is ds x (λ y m. n y (List·Memᴰ·tail m)) e)
+      ap₂ (λ (t u : Bool). cond t true u) (same-flip d x ∙ normal-bytes x d e (n d (List·Memᴰ·head refl)))
+      (has-is ds x (λ y m. n y (List·Memᴰ·tail m)) e)
       ∙ or-is (sameBytes x d) (M.has K x ds)
 
   one-more : (ds : List (List ℕ)) (x : List ℕ) → Normals ds → normal x ≡ x → (t : Bool) → Normals (cond t ds (ds ++ (x ∷ [])))
@@ -107,7 +96,8 @@ module _ (g : Geometry) where
       ∙ register-is (cond (M.has K x ds) ds (ds ++ (x ∷ []))) xs (one-more ds x n e (M.has K x ds)) (λ y m. k y (List·Memᴰ·tail m))
 
   registered-is : (ds : List (List ℕ)) (p : List ℕ) → Dirs ds → registered ds p ≡ M.register K ds (ancestors p)
-  registered-is ds p D = sym (one-by-one ds (ancestors p) (ancestors-dirs p)) ∙ register-is ds (ancestors p) (D .normals) (ancestor-normal p)
+  registered-is ds p D =
+      sym (one-by-one ds (ancestors p) (ancestors-dirs p)) ∙ register-is ds (ancestors p) (D .normals) (ancestor-normal p)
 
   -- ---- a survey
 
@@ -127,22 +117,24 @@ module _ (g : Geometry) where
     abbrev sh : Survey → M.State K
     sh = shown plan d q
 
-    spare-is : (v : Survey) (h : M.Head (List ℕ)) → sh (S.spare (M.asks K h) v) ≡ M.spare K (sh v) h
-    spare-is v h = rw (map-snoc plain (v .rows) none, map-length plain (v .rows), append-assoc)
+    spare-is : (v : Survey) (h : M.Head (List ℕ)) → sh (S.spare (M.wants K h) v) ≡ M.spare K (sh v) h
+    spare-is v h = rw (map-append plain (v .rows) (none ∷ []), length-map (v .rows) plain, append-assoc)
 
     module _ (v : Survey) (D : Dirs (v .dirs)) (p : List ℕ) (e l : ℕ) where
-      enter-is : (rs : List Row) (ls : List ℕ) (r : Row) → sh (S.enter p e rs ls r v) ≡ M.enter K (sh v) (claimOf p e l) (map plain rs) ls (plain r)
-      enter-is rs ls r = rw (map-snoc plain rs r, registered-is (v .dirs) p D)
+      enter-is : (rs : List Row) (ls : List ℕ) (r : Row)
+          → sh (S.enter p e rs ls r v) ≡ M.enter K (sh v) (claimOf p e l) (map plain rs) ls (plain r)
+      enter-is rs ls r = rw (map-append plain rs (r ∷ []), registered-is (v .dirs) p D)
 
       rival-is : (j : ℕ) (t : Bool) → sh (S.rival p e l j t v) ≡ M.rival K (sh v) (claimOf p e l) j t
-      rival-is j true = rw (map-length plain (v .rows)) (enter-is (v .rows) (length (v .rows) ∷ []) none)
+      rival-is j true = rw (length-map (v .rows) plain) (enter-is (v .rows) (length (v .rows) ∷ []) none)
       rival-is j false =
-          enter-is (set (v .rows) j none) (j ∷ []) (bound p e l false)
-          ∙ ap (λ (rs : List (M.Row (List ℕ))). M.enter K (sh v) (claimOf p e l) rs (j ∷ []) (M.bound (claimOf p e l))) (map-set plain (v .rows) j none)
+          enter-is (set (v .rows) j none) (j ∷ []) (S.claimRow p e l)
+          ∙ ap (λ (rs : List (M.Row (List ℕ))). M.enter K (sh v) (claimOf p e l) rs (j ∷ []) (M.bound (claimOf p e l)))
+          (map-set plain (v .rows) j none)
 
       meet-is : (j : ℕ) (r : Row) → sh (S.meet p e l j r v) ≡ M.meet K (sh v) (claimOf p e l) j (plain r)
-      meet-is j (unbound f) = enter-is (v .rows) [] (bound p e l false)
-      meet-is j (bound r f m t) = rival-is j (leb e f)
+      meet-is j (unbound f) = enter-is (v .rows) [] (S.claimRow p e l)
+      meet-is j (bound r f) = rival-is j (leb e (f .gen))
 
     pub step-is : (h : Head) (v : Survey) → Dirs (v .dirs) → sh (S.step h v) ≡ M.step K (sh v) (said h)
     unfolding S.step M.step
@@ -154,14 +146,14 @@ module _ (g : Geometry) where
         ∙ ap (M.meet K (sh v) (claimOf p e l) j) (sym (rows-at (v .rows) j))
         ∙ ap (λ (k : ℕ). M.meet K (sh v) (claimOf p e l) k (M.rowAt K (map plain (v .rows)) k)) (find-is p (v .rows))
 
-    pub step-length : (h : Head) (v : Survey) → Dirs (v .dirs) → length (S.step h v .rows) ≡ suc (length (v .rows))
+    step-length : (h : Head) (v : Survey) → Dirs (v .dirs) → length (S.step h v .rows) ≡ suc (length (v .rows))
     step-length h v D =
-        sym (map-length plain (S.step h v .rows))
+        sym (length-map (S.step h v .rows) plain)
         ∙ ap (λ (s : M.State K). length (s .rows)) (step-is h v D)
         ∙ step-moves K (sh v) (said h) .size
-        ∙ ap suc (map-length plain (v .rows))
+        ∙ ap suc (length-map (v .rows) plain)
 
-    pub step-dirs : (h : Head) (v : Survey) → Dirs (v .dirs) → Dirs (S.step h v .dirs)
+    step-dirs : (h : Head) (v : Survey) → Dirs (v .dirs) → Dirs (S.step h v .dirs)
     unfolding S.step
     step-dirs absent v D = D
     step-dirs (idle e) v D = D
@@ -173,14 +165,15 @@ module _ (g : Geometry) where
 
         go : (j : ℕ) (r : Row) → Dirs (S.meet p e l j r v .dirs)
         go j (unbound f) = registered-dirs (v .dirs) p D
-        go j (bound r f m t) = rival j (leb e f)
+        go j (bound r f) = rival j (leb e (f .gen))
 
     scan-front : (H : ℕ → M.Head (List ℕ)) (k : ℕ) (s : M.State K) → M.scan K H (suc k) s ≡ M.scan K H k (M.step K s (H (length (s .rows))))
     unfolding M.scan
     scan-front H zero s = refl
     scan-front H (suc k) s = ap (λ (x : M.State K). M.step K x (H (length (x .rows)))) (scan-front H k s)
 
-    pub scan-is : (f : ℕ → Head) (k : ℕ) (v : Survey) → Dirs (v .dirs) → sh (S.scan (tab f (length (v .rows)) k) v) ≡ M.scan K (λ i. said (f i)) k (sh v)
+    pub scan-is : (f : ℕ → Head) (k : ℕ) (v : Survey) → Dirs (v .dirs)
+        → sh (S.scan (tab f (length (v .rows)) k) v) ≡ M.scan K (λ i. said (f i)) k (sh v)
     unfolding S.scan tab M.scan
     scan-is f zero v D = refl
     scan-is f (suc k) v D =
@@ -189,7 +182,7 @@ module _ (g : Geometry) where
         let H : ℕ → M.Head (List ℕ) = λ i. said (f i) in
         ap (λ (j : ℕ). sh (S.scan (tab f j k) u)) (sym (step-length (f n) v D))
         ∙ scan-is f k u (step-dirs (f n) v D)
-        ∙ ap (M.scan K H k) (step-is (f n) v D ∙ ap (λ (j : ℕ). M.step K (sh v) (H j)) (sym (map-length plain (v .rows))))
+        ∙ ap (M.scan K H k) (step-is (f n) v D ∙ ap (λ (j : ℕ). M.step K (sh v) (H j)) (sym (length-map (v .rows) plain)))
         ∙ sym (scan-front H k (sh v))
 
     pub scan-dirs : (hs : List Head) (v : Survey) → Dirs (v .dirs) → Dirs (S.scan hs v .dirs)
@@ -222,18 +215,7 @@ module _ (g : Geometry) where
       abbrev d : Dev
       d = freeM plan g i (s .counter) (w .dev)
 
-      -- the pool after it, and the model's: whether it joins the queue
-      abbrev after : Bool → State
-      after t =
-          record {
-            cap = s .cap;
-            dirCap = s .dirCap;
-            rows = set (s .rows) i (unbound (s .counter));
-            dirs = s .dirs;
-            queue = cond t (s .queue ++ (i ∷ [])) (s .queue);
-            counter = s .counter + 1;
-          }
-
+      -- the model's pool after it: whether the slot joins the queue
       abbrev modelled : Bool → M.State K
       modelled t =
           record {
@@ -246,10 +228,10 @@ module _ (g : Geometry) where
           }
 
       pub release-shown : shownW plan ls (releaseM plan g i w) ≡ M.release K (shownW plan ls w) i
-      unfolding M.release releaseM
-      release-shown = ap (pooled plan ls d) (release-is plan g i w) ∙ go (fineM d)
+      unfolding M.release releaseM released unbinds withRow spent queued
+      release-shown = go (fineM d)
         where
-          go : (t : Bool) → pooled plan ls d (after t) ≡ modelled t
+          go : (t : Bool) → pooled plan ls d (released i t s) ≡ modelled t
           go true = rw (map-set plain (s .rows) i (unbound (s .counter)), add-one)
           go false = rw (map-set plain (s .rows) i (unbound (s .counter)), add-one)
 

@@ -1,5 +1,5 @@
--- The rows of table P that a call on a pool decides: P1, P4 and P5, and the open that finds no generation left (P6). Each call is first worked out on
--- the pool that the buffers hold, and then it is the public call by Public.antt.
+-- The rows of table P that a call on a pool decides: P1, P4 and P5, and the open that finds no generation left (P6). Each call is first
+-- worked out on the pool that the buffers hold, and then it is the public call by Public.antt.
 use Prim.Native.Nat.{ℕ, _+_, _≤_, _<_, _^_}
 use native.Mathlib.Omega.{arith}
 use mathlib.Core.Path.{_≡_, refl, sym, ap, _∙_}
@@ -17,25 +17,30 @@ use Rattle.device.specs.Device.{Dev, turn, stops, dataTruncateM}
 use Rattle.device.specs.Laws.{truncate}
 use Rattle.device.specs.Keeps.{acts}
 use Rattle.device.specs.Memory.{memory}
-use Rattle.rows.specs.Rows.{bound, none, at, lenOf}
+use Rattle.rows.specs.Rows.{file, bound, none, at, lenOf}
 use Rattle.dirs.specs.Dirs.{registered}
 use Rattle.table.specs.State.{State, view}
 use Rattle.table.specs.Queue.{spent, unqueued}
+use Rattle.table.specs.Changes.{withRow, withDirs}
 use Rattle.table.specs.Laws.{view-flat}
-use Rattle.steps.specs.World.{World, world, Lent, viewW, flatW, Fit, Ready}
-use Rattle.steps.specs.Steps.{fineM, withRow}
+use Rattle.steps.specs.World.{World, world, viewW, flatW, Fit, Ready}
+use Rattle.steps.specs.Steps.{fineM}
 use Rattle.steps.specs.Laws.{ready-fit}
-use Rattle.handles.specs.Outcome.{Outcome, outcome, flatO}
-use Rattle.handles.specs.Handles.{isLive, filling, readPart, readAtM}
+use Rattle.steps.specs.Outcome.{Outcome, outcome, flatO}
+use Rattle.handles.specs.Handles.{isLive, Filling, filling, readPart, readAtM}
 use Rattle.handles.specs.Laws.{stays}
-use Rattle.files.specs.Files.{isFile, roomFor, registers, binds, Handle, handle, noHandle, created, createM, admitsNew, openNewM, openWriteM}
+use Rattle.files.specs.Files.{isFile, roomFor, registers, binds, Handle, handle, noHandle}
+use Rattle.files.specs.Files.{created, createM, admitsNew, openNewM, openWriteM}
 use Rattle.files.specs.Laws.{first-held, open-write-fit}
 use Rattle.renames.specs.Rename.{frontM, renameM}
-use Rattle.named.specs.Public.{openWriteP}
+use Rattle.calls_gate.specs.declared.Call.the-variants.{OpenWrite, ReadAt, Rename}
+use Rattle.calls_gate.specs.Table.{takesOf, textIf}
+use Rattle.calls_gate.specs.Replies.{Came}
+use Rattle.calls_gate.specs.Calls.{quiet, opened, filled, innerM, callP}
 use Rattle.promises.specs.Demand3.{Untouched}
-use Rattle.promises.specs.Edges.{Setting, state, NewFile, Able, Opens, P1, P4, Unmoved, P5}
+use Rattle.promises.specs.Edges.{Setting, state, unchanged, NewFile, Able, Opens, P1, read, P4, renamed, Unmoved, P5}
 use Rattle.promises.proofs.Adopt.{untouched-now}
-use Rattle.promises.proofs.Public.{open-write-is, read-at-is, rename-is}
+use Rattle.promises.proofs.Public.{on-pool}
 
 -- ---- an open, on what the buffers hold
 
@@ -47,14 +52,15 @@ module _ (plan : List ℕ) (g : Geometry) (path : List ℕ) (keep : Bool) (w : W
   unfolding openWriteM
   too-long h = rw (lt-ltb 480 (length path) h)
 
-  module _ (short : length path ≤ 480) (new : isFile path s ≡ false) (room : length (registered (s .dirs) path) ≤ s .dirCap) (free : 0 < length (s .queue)) where
+  module _ (short : length path ≤ 480) (new : isFile path s ≡ false) (room : length (registered (s .dirs) path) ≤ s .chosen .«dir_rows»)
+      (free : 0 < length (s .queue)) where
     opens-new : openWriteM plan g path keep w ≡ openNewM plan g path w
     unfolding openWriteM
     opens-new = rw (le-ltb 480 (length path) short, new)
 
     admits : admitsNew path s ≡ cond (ltb (2 ^ 63) (s .counter + 1)) 9 0
     unfolding admitsNew roomFor
-    admits = rw (ne-eqb (length (s .queue)) 0 (λ e. omega arith), le-ltb (s .dirCap) (length (registered (s .dirs) path)) room)
+    admits = rw (ne-eqb (length (s .queue)) 0 (λ e. omega arith), le-ltb (s .chosen .«dir_rows») (length (registered (s .dirs) path)) room)
 
     none-left : s .counter ≡ 2 ^ 63 → openWriteM plan g path keep w ≡ outcome 9 noHandle w
     unfolding openNewM
@@ -78,7 +84,8 @@ module _ (plan : List ℕ) (g : Geometry) (path : List ℕ) (keep : Bool) (w : W
       done =
           let n = untouched-now plan 0 (w .dev .place) calm in
           let c = truncate i 0 in
-          let q : not (stops (turn plan (w .dev .place))) ≡ true = rw (ne-eqb (turn plan (w .dev .place)) 1 (n .0), ne-eqb (turn plan (w .dev .place)) 2 (n .1)) in
+          let q : not (stops (turn plan (w .dev .place))) ≡ true =
+          rw (ne-eqb (turn plan (w .dev .place)) 1 (n .0), ne-eqb (turn plan (w .dev .place)) 2 (n .1)) in
           let a = acts plan g (w .dev) c (f .shape) inside refl in
           ap fineM (sym a) ∙ sym (memory plan g .last-ok (w .dev) c (f .shape) inside refl refl)
           ∙ memory plan g .calm-ok (w .dev) c (f .shape) inside refl q (f .shape .least)
@@ -90,9 +97,9 @@ module _ (plan : List ℕ) (g : Geometry) (path : List ℕ) (keep : Bool) (w : W
           let z : shorter .place .last ≡ 0 = eqb-true (shorter .place .last) 0 done in
           opens-new ∙ rw (a, z)
 
-      row-is : at (created path true s .rows) i ≡ bound path (s .counter) 0 true
-      unfolding created binds registers withRow spent unqueued
-      row-is = getD-set-same (s .rows) i (bound path (s .counter) 0 true) none (first-held path s (f .valid) free left)
+      row-is : at (created path true s .rows) i ≡ bound path (file (s .counter) 0 true)
+      unfolding created binds registers withDirs withRow spent unqueued
+      row-is = getD-set-same (s .rows) i (bound path (file (s .counter) 0 true)) none (first-held path s (f .valid) free left)
 
 -- ---- a read and a rename
 
@@ -106,7 +113,8 @@ module _ (plan : List ℕ) (g : Geometry) (w : World) where
     unfolding readAtM
     before h = let z : leb (lenOf (at (w .state .rows) i)) pos ≡ false = lt-leb (lenOf (at (w .state .rows) i)) pos h in rw (live, z)
 
-  equal-paths : (from to : List ℕ) → length to ≤ 480 → samePath from to ≡ true → renameM plan g from to w ≡ outcome (cond (isFile from (w .state)) 0 5) tt w
+  equal-paths : (from to : List ℕ) → length to ≤ 480 → samePath from to ≡ true
+      → renameM plan g from to w ≡ outcome (cond (isFile from (w .state)) 0 5) tt w
   unfolding renameM frontM
   equal-paths from to short same = let z : ltb 480 (length to) ≡ false = le-ltb 480 (length to) short in rw (z, same)
 
@@ -120,58 +128,83 @@ module _ (c : Setting) where
   R = c .ready
 
   -- a call that changes nothing, in the buffers
-  nothing : {A : Type 0} (n : ℕ) (r : A) (o : Outcome A World) → o ≡ outcome n r w → flatO o ≡ outcome n r (c .lent)
-  nothing n r o e = ap flatO e ∙ sym (stays n r (c .lent) (R .pool))
+  still : {A : Type 0} (n : ℕ) (r : A) (o : Outcome A World) → o ≡ outcome n r w → flatO o ≡ outcome n r (c .lent)
+  still n r o e = ap flatO e ∙ sym (stays n r (c .lent) (R .pool))
+
+  module _ (path : List ℕ) (keep : Bool) (t : isText path ≡ true) where
+    abbrev call : Came
+    call = callP (c .plan) (c .geometry) (OpenWrite keep) path (c .second) (c .buf) (c .lent)
+
+    abbrev inner : Outcome Handle World
+    inner = openWriteM (c .plan) (c .geometry) path keep w
+
+    open-is : call ≡ opened (c .buf) (flatO inner)
+    unfolding takesOf textIf innerM
+    open-is = on-pool (c .plan) (c .geometry) (OpenWrite keep) path (c .second) (c .buf) (c .lent) R refl t refl
+
+    -- an open that is refused
+    open-refused : (n : ℕ) → inner ≡ outcome n noHandle w → call ≡ unchanged c n
+    open-refused n e = open-is ∙ ap (opened (c .buf)) (still n noHandle inner e)
 
   module _ (path : List ℕ) (keep : Bool) (short : length path ≤ 480) (N : NewFile path (state c)) where
-    public : openWriteP (c .plan) (c .geometry) path keep (c .lent) ≡ flatO (openWriteM (c .plan) (c .geometry) path keep w)
-    public = open-write-is (c .geometry) (c .lent) R (c .plan) path keep (N .text)
-
     -- no generation is left
-    pub open-nine : 0 < length (state c .queue) → state c .counter ≡ 2 ^ 63
-        → openWriteP (c .plan) (c .geometry) path keep (c .lent) ≡ outcome 9 noHandle (c .lent)
+    pub open-nine : 0 < length (state c .queue) → state c .counter ≡ 2 ^ 63 → call path keep (N .text) ≡ unchanged c 9
     unfolding viewW
-    open-nine free e = public ∙ nothing 9 noHandle _ (none-left (c .plan) (c .geometry) path keep w short (N .new) (N .dirs) free e)
+    open-nine free e = open-refused path keep (N .text) 9 (none-left (c .plan) (c .geometry) path keep w short (N .new) (N .dirs) free e)
 
     open-done : Able c → Opens c path keep
     unfolding viewW flatO flatW
     open-done A =
         let g = c .geometry in
+        let i = getD (state c .queue) 0 0 in
+        let public = open-is path keep (N .text) in
         let f = ready-fit g (c .lent) R in
         let e = opens (c .plan) g path keep w short (N .new) (N .dirs) (A .free) f (A .left) (A .calm) in
         let F = open-write-fit (c .plan) g w f path keep (N .text) in
         record {
-          answer = ap (λ (o : Outcome Handle Lent). o .out) public ∙ ap (λ (o : Outcome Handle World). o .out) e;
-          results = ap (λ (o : Outcome Handle Lent). o .results) public ∙ ap (λ (o : Outcome Handle World). o .results) e;
+          answer = ap (λ (x : Came). x .number) public ∙ ap (λ (o : Outcome Handle World). o .out) e;
+          told = ap (λ (x : Came). x .told) public ∙ ap (λ (o : Outcome Handle World). opened (c .buf) (flatO o) .told) e;
           file =
-              ap (λ (o : Outcome Handle Lent). at (view (o .left .bufs) .rows) (getD (state c .queue) 0 0)) public
-              ∙ ap (λ (t : State). at (t .rows) (getD (state c .queue) 0 0)) (view-flat (openWriteM (c .plan) g path keep w .left .state) (F .valid))
-              ∙ ap (λ (o : Outcome Handle World). at (o .left .state .rows) (getD (state c .queue) 0 0)) e
+              ap (λ (x : Came). at (view (x .left .bufs) .rows) i) public
+              ∙ ap (λ (t : State). at (t .rows) i) (view-flat (openWriteM (c .plan) g path keep w .left .state) (F .valid))
+              ∙ ap (λ (o : Outcome Handle World). at (o .left .state .rows) i) e
               ∙ row-is (c .plan) g path keep w short (N .new) (N .dirs) (A .free) f (A .left) (A .calm);
+          buf = ap (λ (x : Came). x .buf) public;
         }
 
   pub p1 : P1 c
   unfolding P1
   p1 path keep = (
     λ short N A. open-done path keep short N A,
-    λ long t. open-write-is (c .geometry) (c .lent) R (c .plan) path keep t ∙ nothing 4 noHandle _ (too-long (c .plan) (c .geometry) path keep w long),
+    λ long t. open-refused path keep t 4 (too-long (c .plan) (c .geometry) path keep w long),
   )
+
+  read-is : (i generation pos : ℕ) (buf : List ℕ)
+      → read c i generation pos buf ≡ filled (flatO (readAtM (c .plan) (c .geometry) i generation pos buf w))
+  unfolding takesOf textIf innerM
+  read-is i generation pos buf =
+      on-pool (c .plan) (c .geometry) (ReadAt i generation pos) (c .first) (c .second) buf (c .lent) R refl refl refl
 
   pub p4 : P4 c
   unfolding P4 viewW
   p4 i generation pos buf live =
-      let e = read-at-is (c .geometry) (c .lent) R (c .plan) i generation pos buf in (
-        λ h. e ∙ nothing 0 (filling 0 buf) _ (past (c .plan) (c .geometry) w i generation pos buf live h),
-        λ h. e ∙ ap flatO (before (c .plan) (c .geometry) w i generation pos buf live h),
+      let e = read-is i generation pos buf in (
+        λ h. e ∙ ap filled (still 0 (filling 0 buf) _ (past (c .plan) (c .geometry) w i generation pos buf live h)),
+        λ h. e ∙ ap (λ (o : Outcome Filling World). filled (flatO o)) (before (c .plan) (c .geometry) w i generation pos buf live h),
       )
+
+  rename-is : (from to : List ℕ) → isText from ≡ true → isText to ≡ true
+      → renamed c from to ≡ quiet (c .buf) (flatO (renameM (c .plan) (c .geometry) from to w))
+  unfolding takesOf textIf innerM
+  rename-is from to t u = on-pool (c .plan) (c .geometry) Rename from to (c .buf) (c .lent) R refl t u
 
   unmoved : (from to : List ℕ) → isText from ≡ true → isText to ≡ true → length to ≤ 480 → samePath from to ≡ true → Unmoved c from to
   unfolding viewW
   unmoved from to t u short same =
-      let e = rename-is (c .geometry) (c .lent) R (c .plan) from to t u in
+      let e = rename-is from to t u in
       let r = equal-paths (c .plan) (c .geometry) w from to short same in (
-        λ h. e ∙ nothing 0 tt _ (r ∙ rw h),
-        λ h. e ∙ nothing 5 tt _ (r ∙ rw h),
+        λ h. e ∙ ap (quiet (c .buf)) (still 0 tt _ (r ∙ rw h)),
+        λ h. e ∙ ap (quiet (c .buf)) (still 5 tt _ (r ∙ rw h)),
       )
 
   pub p5 : P5 c

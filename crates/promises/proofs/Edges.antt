@@ -1,13 +1,13 @@
--- The rows of table P about the headers that a mount finds: P2, P3 and P8. The rule (`mount-rule`) carries P2 and what is unbound; that a slot which claims
--- nothing is queued is `scan-spare`.
+-- The rows of table P about the headers that a mount finds: P2, P3 and P8. The rule (`mount-rule`) carries P2 and what is unbound; that a
+-- slot which claims nothing is queued is `scan-free` of survey.
 use Prim.Native.Nat.{ℕ, zero, suc, _+_, _≤_, _<_, min}
 use native.Mathlib.Omega.{arith}
 use native.Mathlib.Decide.{ℕ-discrete}
 use mathlib.Core.Path.{_≡_, refl, sym, ap, subst, _∙_}
 use mathlib.Core.Logic.{_≢_, _⊎_, inl, inr}
 use mathlib.Core.Bool.{Bool, true, false, cond, _&&_, false≢true}
-use mathlib.Core.List.{List, [], _∷_, _++_, List·Memᴰ·head, Memᴰ·append-left, Memᴰ·append-right, Memᴰ·cast}
-use lib.Dec.{ltb, leb}
+use mathlib.Core.List.{List, [], _∷_, _++_, map, List·Memᴰ·head, List·Memᴰ·tail, Memᴰ·append-left}
+use lib.Dec.{ltb}
 use lib.ListN.{length, take, length-take}
 use borrow.Author.Tests.{lt-ltb}
 use Rattle.lists.specs.Runs.{tab}
@@ -20,24 +20,27 @@ use Rattle.header.specs.Block as Block
 use Rattle.path.specs.Path.{samePath}
 use Rattle.path.specs.Theorems.{same-path-sym, same-path-trans}
 use Rattle.device.specs.declared.Geometry.{Geometry}
-use Rattle.device.specs.Device.{Dev, Shape, physOf}
+use Rattle.device.specs.Device.{Shape, physOf}
 use Rattle.device.specs.Slots.{partOf}
 use Rattle.device.specs.Memory.{memory}
-use Rattle.rows.specs.Rows.{Row, unbound, bound, at, isBound, pathOf, genOf, lenOf, find}
+use Rattle.rows.specs.Rows.{at, isBound, pathOf, genOf, lenOf}
 use Rattle.dirs.specs.Dirs.{Dirs}
 use Rattle.table.specs.State.{State}
+use Rattle.table.specs.declared.Chosen.{Chosen}
 use Rattle.steps.specs.World.{World, world}
 use Rattle.steps.specs.Steps.{fineM, freeM, releaseM}
 use Rattle.steps.specs.Laws.{release-is}
+use Rattle.steps.specs.Outcome.{Outcome, None}
 use Rattle.survey.specs.Heads.{Head, absent, idle, claim, saidOf, headOf}
+use Rattle.survey.specs.Claims.{rowOf}
+use Rattle.survey.specs.Staged.{spares, wants}
 use Rattle.survey.specs.Survey.{Survey}
-use Rattle.survey.specs.Survey as S
-use Rattle.mount.specs.Mount.{Came, begin, installed, drain, emptyState, mountM}
-use Rattle.intake.specs.Public.{slotRows, dirRows}
-use Rattle.promises.specs.Demand3.{headerAt, asks, Best, Holds, Rule, surveyed, standing}
-use Rattle.promises.specs.Edges.{Mount, head, block, Claimless, after, rows, Done, Free, P2, P3, front, P8}
+use Rattle.survey.specs.Laws.{scan-free}
+use Rattle.mount.specs.Mount.{installed, drain, emptyState, mountM}
+use Rattle.calls_gate.specs.Table.{chosenOf}
+use Rattle.promises.specs.Demand3.{headerAt, Best, Holds, Rule, surveyed, standing}
+use Rattle.promises.specs.Edges.{Mounting, head, block, Claimless, lends, held, rows, Accepted, Free, P2, P3, front, P8}
 use Rattle.promises.proofs.Free.{short-said}
-use Rattle.promises.proofs.Bridge.{step-length, step-dirs}
 use Rattle.promises.proofs.Adopt.{surveyed-is}
 use Rattle.promises.proofs.Mount.{empty-dirs, mount-room, mount-is, mount-rule}
 use Rattle.promises.proofs.Public.{mount-shape, mount-accepted, mount-state}
@@ -66,66 +69,43 @@ module _ (b : List ℕ) (h : Header) (e : decoded b (length b) ≡ Found h) wher
   unfolding headOf
   found-idle u z = ap (saidOf b) e ∙ rw (u, z)
 
-  pub found-asks : asks (headOf b) ≡ suc (h .generation)
-  unfolding headOf
-  found-asks = ap (λ (x : Decoded). asks (saidOf b x)) e ∙ go (h .«in_use» && ltb 0 (h .«path_len»))
+  pub found-wants : wants (headOf b) ≡ suc (h .generation)
+  unfolding headOf wants
+  found-wants = ap (λ (x : Decoded). wants (saidOf b x)) e ∙ go (h .«in_use» && ltb 0 (h .«path_len»))
     where
-      go : (t : Bool) → asks (cond t (claim (Block.pathOf b) (h .generation) (h .len)) (idle (h .generation))) ≡ suc (h .generation)
+      go : (t : Bool) → wants (cond t (claim (Block.pathOf b) (h .generation) (h .len)) (idle (h .generation))) ≡ suc (h .generation)
       go true = refl
       go false = refl
 
 -- ---- "Non-claims join the queue by index"
 
-step-spare : (h : Head) (v : Survey) → NoClaim h → In (length (v .rows)) (S.step h v .free)
-unfolding S.step
-step-spare absent v n = Memᴰ·append-right (v .free) (List·Memᴰ·head refl)
-step-spare (idle e) v n = Memᴰ·append-right (v .free) (List·Memᴰ·head refl)
-step-spare (claim p e l) v n = absurd (n p e l refl)
+no-row : (h : Head) → NoClaim h → isBound (rowOf h) ≡ false
+unfolding rowOf isBound
+no-row absent n = refl
+no-row (idle e) n = refl
+no-row (claim p e l) n = absurd (n p e l refl)
 
-step-free : (h : Head) (v : Survey) (i : ℕ) → In i (v .free) → In i (S.step h v .free)
-unfolding S.step
-step-free absent v i m = Memᴰ·append-left (length (v .rows) ∷ []) m
-step-free (idle e) v i m = Memᴰ·append-left (length (v .rows) ∷ []) m
-step-free (claim p e l) v i m = go (find p (v .rows)) (at (v .rows) (find p (v .rows)))
-  where
-    rival : (j : ℕ) (t : Bool) → In i (S.rival p e l j t v .free)
-    rival j true = m
-    rival j false = m
-
-    go : (j : ℕ) (r : Row) → In i (S.meet p e l j r v .free)
-    go j (unbound f) = m
-    go j (bound r f n t) = rival j (leb e f)
-
-scan-free : (hs : List Head) (v : Survey) (i : ℕ) → In i (v .free) → In i (S.scan hs v .free)
-unfolding S.scan
-scan-free [] v i m = m
-scan-free (h ∷ hs) v i m = scan-free hs (S.step h v) i (step-free h v i m)
-
-module _ (g : Geometry) (plan : List ℕ) (d : Dev) (f : ℕ → Head) (i : ℕ) (n : NoClaim (f i)) where
-  scan-spare : (k : ℕ) (v : Survey) → Dirs (v .dirs) → length (v .rows) ≤ i → i < length (v .rows) + k → In i (S.scan (tab f (length (v .rows)) k) v .free)
-  unfolding S.scan tab
-  scan-spare zero v D a b = absurd (omega arith)
-  scan-spare (suc k) v D a b = go (ℕ-discrete i (length (v .rows))) (scan-spare k)
+-- a slot whose staged row is unbound is among those that join the queue
+module _ (f : ℕ → Head) (i : ℕ) (n : isBound (rowOf (f i)) ≡ false) where
+  spare-in : (k a : ℕ) → a ≤ i → i < a + k → In i (spares a (map rowOf (tab f a k)))
+  unfolding spares tab
+  spare-in zero a l h = absurd (omega arith)
+  spare-in (suc k) a l h = go (ℕ-discrete i a) (isBound (rowOf (f a))) refl (spare-in k (suc a))
     where
-      u : Survey
-      u = S.step (f (length (v .rows))) v
+      rest : List ℕ
+      rest = spares (suc a) (map rowOf (tab f (suc a) k))
 
-      len : length (u .rows) ≡ suc (length (v .rows))
-      len = step-length g plan d [] (f (length (v .rows))) v D
-
-      go : Dec (i ≡ length (v .rows)) → ((x : Survey) → Dirs (x .dirs) → length (x .rows) ≤ i → i < length (x .rows) + k → In i (S.scan (tab f (length (x .rows)) k) x .free))
-          → In i (S.scan (tab f (suc (length (v .rows))) k) u .free)
-      go (yes e) ih =
-          let c : NoClaim (f (length (v .rows))) = subst (λ (j : ℕ). NoClaim (f j)) e n in
-          scan-free (tab f (suc (length (v .rows))) k) u i (Memᴰ·cast e (step-spare (f (length (v .rows))) v c))
-      go (no ne) ih =
-          subst (λ (j : ℕ). In i (S.scan (tab f j k) u .free)) len
-          (ih u (step-dirs g plan d [] (f (length (v .rows))) v D) (omega (arith, len)) (omega (arith, len)))
+      go : Dec (i ≡ a) → (t : Bool) → isBound (rowOf (f a)) ≡ t → (suc a ≤ i → i < suc a + k → In i rest) → In i (cond t rest (a ∷ rest))
+      go (yes e) false b more = List·Memᴰ·head e
+      go (yes e) true b more = absurd (false≢true (sym n ∙ ap (λ (j : ℕ). isBound (rowOf (f j))) e ∙ b))
+      go (no e) true b more = more (omega arith) (omega arith)
+      go (no e) false b more = List·Memᴰ·tail (more (omega arith) (omega arith))
 
 -- a release leaves those that are queued
 module _ (g : Geometry) (plan : List ℕ) (i : ℕ) where
   release-queue : (j : ℕ) (w : World) → In i (w .state .queue) → In i (releaseM plan g j w .state .queue)
-  release-queue j w m = subst (λ (s : State). In i (s .queue)) (sym (release-is plan g j w)) (go (fineM (freeM plan g j (w .state .counter) (w .dev))))
+  release-queue j w m =
+      subst (λ (s : State). In i (s .queue)) (sym (release-is plan g j w)) (go (fineM (freeM plan g j (w .state .counter) (w .dev))))
     where
       go : (t : Bool) → In i (cond t (w .state .queue ++ (j ∷ [])) (w .state .queue))
       go true = Memᴰ·append-left (j ∷ []) m
@@ -138,43 +118,47 @@ module _ (g : Geometry) (plan : List ℕ) (i : ℕ) where
 
 -- ---- P2, P3, P8
 
-module _ (m : Mount) where
+module _ (m : Mounting) where
   abbrev pub g : Geometry
   g = m .geometry
 
-  -- the pool before the mount, and the inner call
-  abbrev pub w : World
-  w = world (m .dev) (emptyState (slotRows (m .nums)) (dirRows (m .dirs)))
+  -- what is chosen, the pool before the mount, and the inner call
+  abbrev pub chosen : Chosen
+  chosen = chosenOf (lends m .bufs)
 
-  abbrev pub inner : Came
-  inner = mountM (m .plan) g (slotRows (m .nums)) (dirRows (m .dirs)) (m .k) (m .dev)
+  abbrev pub w : World
+  w = world (m .dev) (emptyState chosen)
+
+  abbrev pub inner : Outcome None World
+  inner = mountM (m .plan) g chosen (m .k) (m .dev)
 
   pub no-dirs : Dirs (w .state .dirs)
-  no-dirs = empty-dirs (slotRows (m .nums)) (dirRows (m .dirs))
+  no-dirs = empty-dirs chosen
 
-module _ (m : Mount) (D : Done m) where
+module _ (m : Mounting) (D : Accepted m) where
   abbrev H : ℕ → Head
   H = head m
 
   shape : Shape (g m) (m .dev .bytes) (m .dev .phys)
-  shape = mount-shape (m .plan) (g m) (m .k) (m .dev) (m .nums) (m .names) (m .dirs) (D .accepted)
+  shape = mount-shape (m .plan) (g m) (m .k) (m .first) (m .second) (m .buf) (lends m) (D .answer)
 
   came-zero : inner m .out ≡ 0
-  came-zero = mount-accepted (m .plan) (g m) (m .k) (m .dev) (m .nums) (m .names) (m .dirs) (D .accepted)
+  came-zero = mount-accepted (m .plan) (g m) (m .k) (m .first) (m .second) (m .buf) (lends m) (D .answer)
 
-  pub state-is : after m ≡ inner m .world .state
-  state-is = mount-state (m .plan) (g m) (m .k) (m .dev) (m .nums) (m .names) (m .dirs) (D .accepted)
+  pub state-is : held m ≡ inner m .left .state
+  state-is = mount-state (m .plan) (g m) (m .k) (m .first) (m .second) (m .buf) (lends m) (D .answer)
 
   pub rule : Rule H (m .k) (rows m)
   rule =
       subst (λ (s : State). Rule H (m .k) (s .rows)) (sym state-is)
-      (mount-rule (g m) (m .plan) (slotRows (m .nums)) (dirRows (m .dirs)) (m .k) (m .dev) shape (D .reads) came-zero)
+      (mount-rule (g m) (m .plan) (chosen m) (m .k) (m .dev) shape (D .reads) came-zero)
 
   slots-there : m .k ≤ length (m .dev .phys)
-  slots-there = mount-room (g m) (m .plan) (slotRows (m .nums)) (dirRows (m .dirs)) (m .k) (m .dev) shape (D .reads) came-zero
+  slots-there = mount-room (g m) (m .plan) (chosen m) (m .k) (m .dev) shape (D .reads) came-zero
 
   -- a bound slot is the best claim of its path
-  bound-best : (i : ℕ) → isBound (at (rows m) i) ≡ true → Best H (m .k) i (pathOf (at (rows m) i)) (genOf (at (rows m) i)) (lenOf (at (rows m) i))
+  bound-best : (i : ℕ) → isBound (at (rows m) i) ≡ true
+      → Best H (m .k) i (pathOf (at (rows m) i)) (genOf (at (rows m) i)) (lenOf (at (rows m) i))
   bound-best i b = rule .holder i _ _ _ .0 (record { bound = b; path = refl; gen = refl; len = refl })
 
   not-bound : (i : ℕ) → (isBound (at (rows m) i) ≡ true → ⊥) → isBound (at (rows m) i) ≡ false
@@ -185,8 +169,9 @@ module _ (m : Mount) (D : Done m) where
       go false e = refl
 
   -- of two slots, alone with their path, the first is better: it holds the path
-  module _ (i j : ℕ) (p q : List ℕ) (e f l n : ℕ) (a : i < m .k) (b : j < m .k) (ne : j ≢ i) (hi : H i ≡ claim p e l) (hj : H j ≡ claim q f n)
-      (same : samePath p q ≡ true) (no-more : (x : ℕ) (r : List ℕ) (u v : ℕ) → x < m .k → x ≢ i → x ≢ j → H x ≡ claim r u v → samePath p r ≡ false)
+  module _ (i j : ℕ) (p q : List ℕ) (e f l n : ℕ) (a : i < m .k) (b : j < m .k) (ne : j ≢ i) (hi : H i ≡ claim p e l)
+      (hj : H j ≡ claim q f n) (same : samePath p q ≡ true)
+      (no-more : (x : ℕ) (r : List ℕ) (u v : ℕ) → x < m .k → x ≢ i → x ≢ j → H x ≡ claim r u v → samePath p r ≡ false)
       (better : (f < e) ⊎ ((f ≡ e) × (i < j))) where
     over : (x : ℕ) (r : List ℕ) (u v : ℕ) → x < m .k → x ≢ i → H x ≡ claim r u v → samePath p r ≡ true → (u < e) ⊎ ((u ≡ e) × (i < x))
     over x r u v c apart h s = go (ℕ-discrete x j)
@@ -212,7 +197,8 @@ module _ (m : Mount) (D : Done m) where
         go : Best H (m .k) j (pathOf (at (rows m) j)) (genOf (at (rows m) j)) (lenOf (at (rows m) j)) → ⊥
         go B =
             let c = claim-alike (sym hj ∙ B .claims) in
-            let s : samePath (pathOf (at (rows m) j)) p ≡ true = subst (λ (r : List ℕ). samePath r p ≡ true) (c .0) (same-path-sym p q same) in
+            let s : samePath (pathOf (at (rows m) j)) p ≡ true =
+            subst (λ (r : List ℕ). samePath r p ≡ true) (c .0) (same-path-sym p q same) in
             worse (genOf (at (rows m) j)) (c .1) (B .over i p e l a (λ z. ne (sym z)) hi s) better
 
   pub p2 : P2 m
@@ -227,7 +213,8 @@ module _ (m : Mount) (D : Done m) where
         let back = same-path-sym p q same in
         let others : (x : ℕ) (r : List ℕ) (u v : ℕ) → x < m .k → x ≢ j → x ≢ i → H x ≡ claim r u v → samePath q r ≡ false =
         λ x r u v c y z h. other-side r (no-more x r u v c z y h) in
-        (holds j i q p f e n l b (omega arith) ne hj hi back others (inl more), loses j i q p f e n l b (omega arith) ne hj hi back others (inl more)),
+        let w = inl more in
+        (holds j i q p f e n l b (omega arith) ne hj hi back others w, loses j i q p f e n l b (omega arith) ne hj hi back others w),
   )
     where
       lower : f ≤ e → (f < e) ⊎ ((f ≡ e) × (i < j))
@@ -248,16 +235,16 @@ module _ (m : Mount) (D : Done m) where
   pub claimless-free : (i : ℕ) → i < m .k → Claimless m i → Free m i
   unfolding standing installed surveyed emptyState
   claimless-free i l c =
-      let z = mount-is (g m) (m .plan) (slotRows (m .nums)) (dirRows (m .dirs)) (m .k) (m .dev) shape (D .reads) came-zero in
+      let z = mount-is (g m) (m .plan) (chosen m) (m .k) (m .dev) shape (D .reads) came-zero in
       let v = surveyed (m .plan) (g m) (m .k) (w m) in
       let room : 0 + m .k ≤ length (m .dev .phys) = omega (arith, slots-there) in
+      let same = ap (λ (x : Survey). x .free) (surveyed-is (g m) (m .plan) (m .k) (w m) shape (no-dirs m) (D .reads) room) in
       let q : In i (v .free) =
-      subst (λ (x : Survey). In i (x .free)) (sym (surveyed-is (g m) (m .plan) (m .k) (w m) shape (no-dirs m) (D .reads) room))
-      (scan-spare (g m) (m .plan) (m .dev) H i c (m .k) (begin (w m .state)) (no-dirs m) (omega arith) (omega arith)) in
+      subst (In i) (sym (same ∙ scan-free (tab H 0 (m .k)) [] [] 1)) (spare-in H i (no-row (H i) c) (m .k) 0 (omega arith) (omega arith)) in
       record {
         unbound = not-bound i (λ b. c _ _ _ (bound-best i b .claims));
         queued =
-            subst (λ (s : State). In i (s .queue)) (sym (state-is ∙ ap (λ (x : Came). x .world .state) z))
+            subst (λ (s : State). In i (s .queue)) (sym (state-is ∙ ap (λ (x : Outcome None World). x .left .state) z))
             (drain-queue (g m) (m .plan) i (v .losers) (standing (m .plan) (g m) (m .k) (w m)) q);
       }
 

@@ -1,5 +1,5 @@
--- What a release makes of the headers on the device: other slots keep theirs, the slot's own is free or as it was. What a release leaves in each slot
--- (`free-others`, `free-block`, `put-stopped` of steps) carries it, with what a whole, a cut and a short block say.
+-- What a release makes of the headers on the device: other slots keep theirs, the slot's own is free or as it was. What a release leaves
+-- in each slot (`free-others`, `free-block`, `put-stopped` of steps) carries it, with what a whole, a cut and a short block say.
 use Prim.Native.Nat.{ℕ, _^_, _<_}
 use native.Mathlib.Omega.{arith}
 use native.Mathlib.Decide.{decLt}
@@ -43,7 +43,9 @@ module _ (gen : ℕ) (small : gen < 2 ^ 63) where
   -- the free header: free
   pub free-said : headOf (freeBlock gen) ≡ idle gen
   unfolding headOf
-  free-said = ap (saidOf (freeBlock gen)) (ap (decoded (freeBlock gen)) (length-free gen) ∙ decode-encode (freeHeader gen) [] free-fits (text-complete none))
+  free-said =
+      ap (saidOf (freeBlock gen))
+      (ap (decoded (freeBlock gen)) (length-free gen) ∙ decode-encode (freeHeader gen) [] free-fits (text-complete none))
 
   -- its first half over an old block: the same
   pub cut-said : (old : List ℕ) → length old ≡ 512 → headOf (take 256 (freeBlock gen) ++ drop 256 old) ≡ idle gen
@@ -90,8 +92,11 @@ module _ (plan : List ℕ) (g : Geometry) (i gen : ℕ) (d : Dev) (s : Shape g (
         go false f = absurd (false≢true (sym (ap fineM (stopped f) ∙ f) ∙ e))
 
     -- half of the block over what the slot had, which was a whole block or none
-    torn : (c : List ℕ) → c ≡ take 256 ys ++ drop 256 (blockOf g i d) → Dec (length (blockOf g i d) < 512) → (headOf c ≡ headOf (blockOf g i d)) ⊎ (headOf c ≡ idle gen)
-    torn c e (yes l) = inl (ap headOf e ∙ short-said (take 256 ys ++ drop 256 (blockOf g i d)) (half-short ys (blockOf g i d) l) ∙ sym (short-said (blockOf g i d) l))
+    torn : (c : List ℕ) → c ≡ take 256 ys ++ drop 256 (blockOf g i d) → Dec (length (blockOf g i d) < 512)
+        → (headOf c ≡ headOf (blockOf g i d)) ⊎ (headOf c ≡ idle gen)
+    torn c e (yes l) =
+        let b = blockOf g i d in
+        inl (ap headOf e ∙ short-said (take 256 ys ++ drop 256 b) (half-short ys b l) ∙ sym (short-said b l))
     torn c e (no l) =
         let n : length (blockOf g i d) ≡ 512 = omega (arith, memory plan g .block-length d i s r) in
         inr (ap headOf e ∙ cut-said gen small (blockOf g i d) n)

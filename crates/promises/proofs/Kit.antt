@@ -42,7 +42,8 @@ looks plan zero d = d
 looks plan (suc m) d = looks plan m (looked plan d)
 
 -- a header read changes no byte and no length
-pub looks-shape : (g : Geometry) (plan : List ℕ) (m : ℕ) (d : Dev) → Shape g (d .bytes) (d .phys) → Shape g (looks plan m d .bytes) (looks plan m d .phys)
+pub looks-shape : (g : Geometry) (plan : List ℕ) (m : ℕ) (d : Dev) → Shape g (d .bytes) (d .phys)
+    → Shape g (looks plan m d .bytes) (looks plan m d .phys)
 unfolding looks looked
 looks-shape g plan zero d s = s
 looks-shape g plan (suc m) d s = looks-shape g plan m (looked plan d) s
@@ -84,5 +85,7 @@ realKit g =
           (k .shape, omega (arith, k .slots, h .1));
       keeps = λ w n i e j h l u ne. ap said (free-keeps (w .plan) g i e (w .dev) (h .0) (omega (arith, h .1)) j ne);
       frees = λ w n i e h l t f. ap said (free-frees (w .plan) g i e (w .dev) (h .0) (omega (arith, h .1)) t f);
-      stays = λ w n i e h l t f. ⊎-elim (λ u. inl (ap said u)) (λ u. inr (ap said u)) (free-stays (w .plan) g i e (w .dev) (h .0) (omega (arith, h .1)) t);
+      stays =
+          λ w n i e h l t f. ⊎-elim (λ u. inl (ap said u)) (λ u. inr (ap said u))
+          (free-stays (w .plan) g i e (w .dev) (h .0) (omega (arith, h .1)) t);
     }

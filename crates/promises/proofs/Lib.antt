@@ -1,20 +1,31 @@
--- The argument, in its order: what a release makes of the headers (Free), and so the real pool as a kit of the model (Kit); the survey and the releases are
--- the model's (Bridge), and so are adopt and mount (Adopt, Mount); the model's statements in the customer's words (Words), the next mount under
--- any plan (Again), and so demand 3 (Theorem), also of the buffers that the code leaves (Buffers). For table P: what a survey comes to (Surveys), the public
--- calls by the inner ones (Public), the rows that a call decides (Calls), those that a mount decides (Edges), and the table (Table). Last, one outcome (Outcomes), and all of it of the face over records (Face).
+-- The argument, in its order.
+-- Demand 3: what a release makes of the headers,
 pub mod Free
+-- and so the real pool as a kit of the model;
 pub mod Kit
+-- the survey and the releases are the model's,
 pub mod Bridge
+-- and so are the adoption
 pub mod Adopt
+-- and, with the model's statements in the customer's words,
 pub mod Words
+-- the mount;
 pub mod Mount
+-- the next mount, under any plan;
 pub mod Again
+-- and so demand 3,
 pub mod Theorem
+-- also of the buffers that the code leaves.
 pub mod Buffers
+-- Table P: what the survey of a first mount comes to;
 pub mod Surveys
+-- the public calls by the inner ones;
 pub mod Public
+-- P1, P4 and P5, which a call on a pool decides;
 pub mod Calls
+-- P2, P3 and P8, which the headers that a mount finds decide;
 pub mod Edges
+-- P6 and P7, which the counter decides, and the table.
 pub mod Table
-pub mod Outcomes
+-- All of it through the public face.
 pub mod Face

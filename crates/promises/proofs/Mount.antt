@@ -8,8 +8,10 @@ use Rattle.lists.specs.Distinct.Distinct.{none}
 use Rattle.device.specs.declared.Geometry.{Geometry}
 use Rattle.device.specs.Device.{Dev, Shape}
 use Rattle.dirs.specs.Dirs.{Dirs}
+use Rattle.table.specs.declared.Chosen.{Chosen}
 use Rattle.steps.specs.World.{World, world}
-use Rattle.mount.specs.Mount.{came, emptyState, mountM}
+use Rattle.steps.specs.Outcome.{only}
+use Rattle.mount.specs.Mount.{emptyState, mountM}
 use Rattle.model.specs.Model.{Kit}
 use Rattle.model.specs.Model as M
 use Rattle.model.specs.Best as B
@@ -22,44 +24,50 @@ use Rattle.promises.proofs.Adopt.{Runs, done, accepted-is, accepted-run
 use Rattle.promises.proofs.Words.{rule-is, none-is}
 
 -- no pool has no directories
-pub empty-dirs : (cap dirCap : ℕ) → Dirs (emptyState cap dirCap .dirs)
+pub empty-dirs : (h : Chosen) → Dirs (emptyState h .dirs)
 unfolding emptyState
-empty-dirs cap dirCap = record { normals = λ d m. absurd (List·Memᴰ·not-nil m); once = none; closed = λ d a m k. absurd (List·Memᴰ·not-nil m) }
+empty-dirs h =
+    record { normals = λ d m. absurd (List·Memᴰ·not-nil m); once = none; closed = λ d a m k. absurd (List·Memᴰ·not-nil m) }
 
-module _ (g : Geometry) (plan : List ℕ) (cap dirCap k : ℕ) (d : Dev) (s : Shape g (d .bytes) (d .phys)) (u : Untouched plan k (d .place)) where
+module _ (g : Geometry) (plan : List ℕ) (h : Chosen) (k : ℕ) (d : Dev) (s : Shape g (d .bytes) (d .phys))
+    (u : Untouched plan k (d .place)) where
   abbrev K : Kit
   K = realKit g
 
   abbrev start : World
-  start = world d (emptyState cap dirCap)
+  start = world d (emptyState h)
 
-  pub mount-runs : (slots : ℕ) → slots ≤ cap → slots ≤ length (d .phys) → M.Accepts K slots dirCap k (M.empty K (planned plan d))
-      → Runs g plan start (mountM plan g cap dirCap k d) (M.mount K k (planned plan d))
+  pub mount-runs : (slots : ℕ) → slots ≤ h .rows → slots ≤ length (d .phys)
+      → M.Accepts K slots (h .«dir_rows») k (M.empty K (planned plan d))
+      → Runs g plan start (mountM plan g h k d) (M.mount K k (planned plan d))
   unfolding mountM emptyState M.mount
-  mount-runs slots a b A = accepted-runs g plan k start s (empty-dirs cap dirCap) u slots [] a b A
+  mount-runs slots a b A = accepted-runs g plan k start s (empty-dirs h) u slots [] a b A
 
-  pub mount-accepts : mountM plan g cap dirCap k d .out ≡ 0 → M.Accepts K (min cap (length (d .phys))) dirCap k (M.empty K (planned plan d))
+  pub mount-accepts : mountM plan g h k d .out ≡ 0
+      → M.Accepts K (min (h .rows) (length (d .phys))) (h .«dir_rows») k (M.empty K (planned plan d))
   unfolding mountM emptyState
-  mount-accepts z = came-accepts g plan k start s (empty-dirs cap dirCap) u [] (omega arith) (omega arith) z
+  mount-accepts z = came-accepts g plan k start s (empty-dirs h) u [] (omega arith) (omega arith) z
 
-  pub mount-room : mountM plan g cap dirCap k d .out ≡ 0 → k ≤ length (d .phys)
+  pub mount-room : mountM plan g h k d .out ≡ 0 → k ≤ length (d .phys)
   mount-room z = omega (arith, mount-accepts z .slots-fit)
 
   pub mount-none : k ≤ length (d .phys) → NoneFails plan g k start → P.NoneFails K k (M.empty K (planned plan d))
   unfolding emptyState
-  mount-none l f = none-is g plan k start s (empty-dirs cap dirCap) u (omega arith) [] f
+  mount-none l f = none-is g plan k start s (empty-dirs h) u (omega arith) [] f
 
   -- the device and the pool that a mount that came to 0 leaves
-  pub mount-is : mountM plan g cap dirCap k d .out ≡ 0 → mountM plan g cap dirCap k d ≡ came 0 (done g plan k start s (empty-dirs cap dirCap) u)
+  pub mount-is : mountM plan g h k d .out ≡ 0
+      → mountM plan g h k d ≡ only 0 (done g plan k start s (empty-dirs h) u)
   unfolding mountM emptyState
-  mount-is z = accepted-is g plan k start s (empty-dirs cap dirCap) u (min cap (length (d .phys))) [] (omega arith) (omega arith) (mount-accepts z)
+  mount-is z =
+      accepted-is g plan k start s (empty-dirs h) u (min (h .rows) (length (d .phys))) [] (omega arith) (omega arith) (mount-accepts z)
 
-  pub mount-rule : mountM plan g cap dirCap k d .out ≡ 0 → Rule (headerAt g d) k (mountM plan g cap dirCap k d .world .state .rows)
+  pub mount-rule : mountM plan g h k d .out ≡ 0 → Rule (headerAt g d) k (mountM plan g h k d .left .state .rows)
   mount-rule z =
       let w = planned plan d in
-      let slots = min cap (length (d .phys)) in
+      let slots = min (h .rows) (length (d .phys)) in
       let A = mount-accepts z in
       let R = mount-runs slots (omega arith) (omega arith) A in
       let P = mount-pool K slots k w (s, omega arith) (omega (arith, A .slots-fit)) in
-      rule-is g (headerAt g d) k (mountM plan g cap dirCap k d .world .state .rows)
+      rule-is g (headerAt g d) k (mountM plan g h k d .left .state .rows)
       (subst (λ (x : M.State K). B.Rule K (K .head w) k (x .rows)) (sym (R .shows)) (rule K (P .fit .holders) k (P .size)))

@@ -1,98 +1,108 @@
--- The public calls and the inner ones: on a pool with its device, and with paths that are text, a public call is the inner call; and a public mount that is
--- accepted leaves the pool of the inner one.
+-- The public calls and the inner ones: on a pool with its device, and with paths that are text, no test refuses a call (`on-pool`), and
+-- it is the inner one; a mount of rows and a device of the right shape is the inner mount (`mount-call`), and one that is accepted leaves
+-- its pool.
 use Prim.Native.Nat.{ℕ, _≤_}
-use native.Mathlib.Omega.{arith}
 use mathlib.Core.Path.{_≡_, refl, sym, ap, _∙_}
-use mathlib.Core.Bool.{Bool, true, false, cond, _&&_}
+use mathlib.Core.Bool.{Bool, true, false, cond}
 use mathlib.Core.List.{List}
+use lib.Dec.{eqb}
 use lib.ListN.{length}
-use borrow.Author.Tests.{le-leb}
-use Rattle.text.specs.Text.{isText}
+use borrow.Author.Tests.{eq-eqb, eqb-true, le-leb}
 use Rattle.device.specs.declared.Geometry.{Geometry}
-use Rattle.device.specs.Device.{Dev, Shape, shapeB}
-use Rattle.device.specs.Shape.{both, shape-means}
+use Rattle.device.specs.Device.{Shape, shapeB}
+use Rattle.device.specs.Shape.{shape-means}
 use Rattle.table.specs.State.{view}
 use Rattle.admit.specs.Pools.{pool-tested}
-use Rattle.steps.specs.World.{World, Lent, lent, viewW, flatW, Ready}
+use Rattle.steps.specs.World.{World, Lent, viewW, flatW, Ready}
 use Rattle.steps.specs.Laws.{world-is}
-use Rattle.handles.specs.Outcome.{Outcome, outcome, None, flatO}
-use Rattle.handles.specs.Handles.{filling, readAtM}
-use Rattle.files.specs.Files.{noHandle, openWriteM}
-use Rattle.renames.specs.Rename.{renameM}
-use Rattle.mount.specs.Mount.{Came, Done, mounted, mountM}
+use Rattle.steps.specs.Outcome.{Outcome, None}
+use Rattle.mount.specs.Mount.{mounted, mountM}
 use Rattle.mount.specs.Laws.{mount-valid}
-use Rattle.gate.specs.Refusals.{pooled, holdsPool, shaped, worded, onDevice}
-use Rattle.intake.specs.Public.{rowsB, slotRows, dirRows, unmounted, told, mountP}
-use Rattle.named.specs.Public.{openWriteP, renameP}
-use Rattle.intake.specs.Stays.{rows-shaped}
-use Rattle.file.specs.Public.{readAtP}
-use Rattle.promises.proofs.Buffers.{mounted-done}
+use Rattle.calls_gate.specs.declared.Call.{Call}
+use Rattle.calls_gate.specs.declared.Call.the-variants.{Mount}
+use Rattle.calls_gate.specs.Table.{takesOf, slotRows, dirRows, chosenOf, rowsB, holdsPool, mountable, textIf, refusalOf}
+use Rattle.calls_gate.specs.Replies.{Came}
+use Rattle.calls_gate.specs.Calls.{quiet, innerM, refusedM, callP}
+use Rattle.calls_gate.proofs.Passed.{mounts-on}
+use Rattle.promises.proofs.Buffers.{mounted-left}
 
--- ---- the calls on a pool
+module _ (plan : List ℕ) (g : Geometry) (c : Call) (one two buf : List ℕ) (l : Lent) where
+  abbrev no : ℕ
+  no = refusalOf g c one two l
 
-module _ (g : Geometry) (l : Lent) (R : Ready g l) where
-  pub on-device : {A : Type 0} (zeros : A) (o : Outcome A Lent) → onDevice g zeros l o ≡ o
-  unfolding onDevice pooled shaped holdsPool
-  on-device zeros o =
-      rw (pool-tested (l .bufs) (R .pool), shape-means g (l .dev .bytes) (l .dev .phys) .1 (R .shape), le-leb (l .bufs .pool .held) (length (l .dev .phys)) (R .slots))
+  -- what no test refuses is the inner call
+  goes-in : no ≡ 0 → callP plan g c one two buf l ≡ innerM plan g c one two buf l
+  unfolding callP
+  goes-in z = rw (eq-eqb no 0 z)
 
-  pub open-write-is : (plan path : List ℕ) (keep : Bool) → isText path ≡ true → openWriteP plan g path keep l ≡ flatO (openWriteM plan g path keep (viewW l))
-  unfolding openWriteP worded
-  open-write-is plan path keep t = on-device noHandle _ ∙ rw t
+  -- and a call that gives 0 was not refused
+  not-refused : callP plan g c one two buf l .number ≡ 0 → no ≡ 0
+  unfolding callP refusedM
+  not-refused z = go (eqb no 0) refl z
+    where
+      go : (t : Bool) → eqb no 0 ≡ t → cond t (innerM plan g c one two buf l) (refusedM c no buf l) .number ≡ 0 → no ≡ 0
+      go true e q = eqb-true no 0 e
+      go false e q = q
 
-  pub read-at-is : (plan : List ℕ) (slot generation pos : ℕ) (buf : List ℕ) → readAtP plan g slot generation pos buf l ≡ flatO (readAtM plan g slot generation pos buf (viewW l))
-  unfolding readAtP
-  read-at-is plan slot generation pos buf = on-device (filling 0 buf) _
+  -- ---- on a pool
 
-  pub rename-is : (plan from to : List ℕ) → isText from ≡ true → isText to ≡ true → renameP plan g from to l ≡ flatO (renameM plan g from to (viewW l))
-  unfolding renameP worded
-  rename-is plan from to t u = on-device tt _ ∙ rw (t, u)
+  pub on-pool : Ready g l → takesOf c .mounts ≡ false → textIf (takesOf c .first) one ≡ true → textIf (takesOf c .second) two ≡ true
+      → callP plan g c one two buf l ≡ innerM plan g c one two buf l
+  unfolding refusalOf holdsPool
+  on-pool R m t u =
+      goes-in
+      (rw (
+        m,
+        pool-tested (l .bufs) (R .pool),
+        shape-means g (l .dev .bytes) (l .dev .phys) .1 (R .shape),
+        le-leb (l .bufs .pool .held) (length (l .dev .phys)) (R .slots),
+        t,
+        u,
+      ) refl)
 
 -- ---- a mount
 
-module _ (plan : List ℕ) (g : Geometry) (k : ℕ) (d : Dev) (nums names dirs : List ℕ) where
-  abbrev call : Outcome None Lent
-  call = mountP plan g k d nums names dirs
+module _ (plan : List ℕ) (g : Geometry) (k : ℕ) (one two buf : List ℕ) (l : Lent) where
+  abbrev call : Came
+  call = callP plan g (Mount k) one two buf l
 
-  abbrev inner : Came
-  inner = mountM plan g (slotRows nums) (dirRows dirs) k d
+  abbrev came : Outcome None World
+  came = mountM plan g (chosenOf (l .bufs)) k (l .dev)
 
-  pub mount-call : shapeB g (d .bytes) (d .phys) ≡ true → rowsB nums names dirs ≡ true → call ≡ told (mounted inner)
-  unfolding mountP
-  mount-call s r = rw (s, r)
+  pub mount-call : shapeB g (l .dev .bytes) (l .dev .phys) ≡ true → rowsB (l .bufs .nums) (l .bufs .names) (l .bufs .dirs) ≡ true
+      → call ≡ quiet buf (mounted came)
+  unfolding refusalOf mountable takesOf innerM
+  mount-call s r = goes-in plan g (Mount k) one two buf l (rw (s, r) refl)
 
-  module _ (z : call .out ≡ 0) where
-    -- the tests that it passed
-    tested : (shapeB g (d .bytes) (d .phys) && rowsB nums names dirs) ≡ true
-    unfolding mountP
-    tested = go (shapeB g (d .bytes) (d .phys) && rowsB nums names dirs) z
-      where
-        go : (t : Bool) → cond t (told (mounted inner)) (outcome 2 tt (lent d (unmounted nums names dirs))) .out ≡ 0 → t ≡ true
-        go true e = refl
-        go false e = absurd (omega (arith, e))
+  module _ (z : call .number ≡ 0) where
+    passed : refusalOf g (Mount k) one two l ≡ 0
+    passed = not-refused plan g (Mount k) one two buf l z
 
-    tests : (shapeB g (d .bytes) (d .phys) ≡ true) × (rowsB nums names dirs ≡ true)
-    tests = both _ _ tested
+    fits : Shape g (l .dev .bytes) (l .dev .phys) × (slotRows (l .bufs .nums) ≤ 64) × (dirRows (l .bufs .dirs) ≤ 256)
+    unfolding takesOf
+    fits = mounts-on g (Mount k) (Mount k) one two l passed refl refl .0
 
-    pub mount-shape : Shape g (d .bytes) (d .phys)
-    mount-shape = shape-means g (d .bytes) (d .phys) .0 (tests .0)
+    pub mount-shape : Shape g (l .dev .bytes) (l .dev .phys)
+    mount-shape = fits .0
 
-    few : (slotRows nums ≤ 64) × (dirRows dirs ≤ 256)
-    few = rows-shaped nums names dirs (tests .1) .0
+    -- what it leaves
+    call-is : call ≡ quiet buf (mounted came)
+    unfolding innerM
+    call-is = goes-in plan g (Mount k) one two buf l passed
 
-    -- and what it leaves
-    pub mount-accepted : inner .out ≡ 0
+    pub mount-accepted : came .out ≡ 0
     unfolding mounted
-    mount-accepted = sym (ap (λ (o : Outcome None Lent). o .out) (mount-call (tests .0) (tests .1))) ∙ z
+    mount-accepted = sym (ap (λ (x : Came). x .number) call-is) ∙ z
 
-    pub mount-left : call .left ≡ flatW (inner .world)
-    mount-left =
-        ap (λ (o : Outcome None Lent). o .left) (mount-call (tests .0) (tests .1)) ∙ ap (λ (x : Done). x .lent) (mounted-done inner mount-accepted)
+    mount-left : call .left ≡ flatW (came .left)
+    mount-left = ap (λ (x : Came). x .left) call-is ∙ mounted-left came mount-accepted
 
-    left-is : (viewW (call .left) ≡ inner .world) × Ready g (call .left)
-    left-is = world-is g (inner .world) (call .left) (mount-valid plan g (slotRows nums) (dirRows dirs) k d mount-shape (few .0) (few .1)) mount-left
+    left-is : (viewW (call .left) ≡ came .left) × Ready g (call .left)
+    left-is =
+        world-is g (came .left) (call .left)
+        (mount-valid plan g (chosenOf (l .bufs)) k (l .dev) mount-shape (fits .1) (fits .2)) mount-left
 
-    pub mount-state : view (call .left .bufs) ≡ inner .world .state
+    pub mount-state : view (call .left .bufs) ≡ came .left .state
     unfolding viewW
     mount-state = ap (λ (w : World). w .state) (left-is .0)
 

@@ -18,26 +18,31 @@ use Rattle.dirs.specs.Dirs.{registered}
 use Rattle.dirs.specs.Joined.{absent-few}
 use Rattle.dirs.specs.Laws.{length-registered}
 use Rattle.table.specs.State.{State}
-use Rattle.steps.specs.World.{World, world, Lent}
+use Rattle.steps.specs.World.{World}
 use Rattle.survey.specs.Heads.{absent, claim}
+use Rattle.survey.specs.Staged.{wants}
 use Rattle.survey.specs.Survey.{Survey}
-use Rattle.mount.specs.Mount.{Came, came, installed, drain, moved, emptyState, mountM}
+use Rattle.steps.specs.Outcome.{Outcome, None, only}
+use Rattle.mount.specs.Mount.{installed, drain, moved, emptyState, mountM}
 use Rattle.mount.specs.Mount as Mount
-use Rattle.handles.specs.Outcome.{Outcome, None}
 use Rattle.files.specs.Files.{isFile}
-use Rattle.intake.specs.Public.{slotRows, dirRows}
-use Rattle.named.specs.Public.{openWriteP}
-use Rattle.promises.specs.Demand3.{headerAt, asks, Untouched, reading, surveyed, standing}
-use Rattle.promises.specs.Edges.{Setting, Mount, head, block, valid, Claimless, mounted, after, rows, Done, Room, Apart, P6, P7, TableP, FromBlank, P1}
+use Rattle.calls_gate.specs.declared.Call.the-variants.{OpenWrite}
+use Rattle.calls_gate.specs.Table.{dirRows}
+use Rattle.calls_gate.specs.Replies as replies
+use Rattle.calls_gate.specs.Calls.{callP}
+use Rattle.promises.specs.Demand3.{headerAt, Untouched, Registered, reading, surveyed, standing}
+use Rattle.promises.specs.Edges.{Setting, Mounting, head, block, valid, Claimless, lends, mount, held, rows, Accepted, HasRoom}
+use Rattle.promises.specs.Edges.{Apart, P6, P7, TableP, FromBlank, P1}
 use Rattle.promises.proofs.Adopt.{not-many, settled}
 use Rattle.promises.proofs.Surveys.{Counts, first-counts, first-dirs, first-losers}
 use Rattle.promises.proofs.Public.{mount-call, mount-ready}
 use Rattle.promises.proofs.Calls.{open-nine, p1, p4, p5}
-use Rattle.promises.proofs.Edges.{absent-no-claim, found-asks, g, w, inner, no-dirs, state-is, rule, claimless-free, p2, p3, p8}
+use Rattle.promises.proofs.Edges.{absent-no-claim, found-wants, g, chosen, w, inner, no-dirs, state-is, rule}
+use Rattle.promises.proofs.Edges.{claimless-free, p2, p3, p8}
 
 -- ---- P6, P7
 
-module _ (m : Mount) (R : Room m) where
+module _ (m : Mounting) (R : HasRoom m) where
   abbrev v : Survey
   v = surveyed (m .plan) (g m) (m .k) (w m)
 
@@ -50,75 +55,81 @@ module _ (m : Mount) (R : Room m) where
   abbrev done : World
   done = drain (m .plan) (g m) (v .losers) (standing (m .plan) (g m) (m .k) (w m))
 
+  -- the directories that it found are the ancestors of the claims
+  claims : Registered (head m) (m .k) (v .dirs)
+  claims = first-dirs (g m) (m .plan) (chosen m) (m .k) (m .dev) (R .shape) (R .reads) (R .slots .1)
+
   -- 2, 12, 10 and 8 are not given
-  inner-is : inner m ≡ cond spent (came 9 moves) (came 0 done)
+  inner-is : inner m ≡ cond spent (only 9 moves) (only 0 done)
   unfolding mountM emptyState
   inner-is =
       let room : 0 + m .k ≤ length (m .dev .phys) = omega (arith, R .slots .1) in
       let dirs : ltb (dirRows (m .dirs)) (length (v .dirs)) ≡ false =
-      le-ltb (dirRows (m .dirs)) (length (v .dirs))
-      (R .dirs (v .dirs) (first-dirs (g m) (m .plan) (slotRows (m .nums)) (dirRows (m .dirs)) (m .k) (m .dev) (R .shape) (R .reads) (R .slots .1))) in
+      le-ltb (dirRows (m .dirs)) (length (v .dirs)) (R .dirs (v .dirs) claims) in
       settled (g m) (m .plan) (m .k) (w m) (R .shape) (no-dirs m) (R .reads) room
       (not-many (g m) (m .plan) (m .k) (w m) (R .shape) (no-dirs m) (R .reads) (omega (arith, R .slots .0)) room)
       ∙ rw dirs
 
-  out-is : mounted m .out ≡ inner m .out
+  out-is : mount m .number ≡ inner m .out
   unfolding Mount.mounted
   out-is =
-      ap (λ (o : Outcome None Lent). o .out)
-      (mount-call (m .plan) (g m) (m .k) (m .dev) (m .nums) (m .names) (m .dirs) (shape-means (g m) (m .dev .bytes) (m .dev .phys) .1 (R .shape)) (R .lent))
+      let s = shape-means (g m) (m .dev .bytes) (m .dev .phys) .1 (R .shape) in
+      ap (λ (x : replies.Came). x .number) (mount-call (m .plan) (g m) (m .k) (m .first) (m .second) (m .buf) (lends m) s (R .lent))
 
   counts : Counts (head m) 0 (m .k) 1 (v .counter)
-  counts = first-counts (g m) (m .plan) (slotRows (m .nums)) (dirRows (m .dirs)) (m .k) (m .dev) (R .shape) (R .reads) (R .slots .1)
+  counts = first-counts (g m) (m .plan) (chosen m) (m .k) (m .dev) (R .shape) (R .reads) (R .slots .1)
 
   -- the counter exceeds a valid header's generation
   exceeds : (i : ℕ) (h : Header) → i < m .k → valid m i ≡ Found h → suc (h .generation) ≤ v .counter
   unfolding headerAt
-  exceeds i h l e = omega (arith, counts .each i (omega arith) (omega arith), found-asks (block m i) h e)
+  exceeds i h l e = omega (arith, counts .each i (omega arith) (omega arith), found-wants (block m i) h e)
 
   -- a mount with no loser, whose counter is not too high
   module _ (lost : v .losers ≡ []) (low : v .counter ≤ 2 ^ 63) where
-    accepts : inner m ≡ came 0 done
+    accepts : inner m ≡ only 0 done
     accepts =
         let y : spent ≡ false = le-ltb (2 ^ 63) (v .counter + length (v .losers)) (omega (arith, ap length lost)) in
         inner-is ∙ rw y
 
-    mounts : mounted m .out ≡ 0
-    mounts = out-is ∙ ap (λ (x : Came). x .out) accepts
+    mounts : mount m .number ≡ 0
+    mounts = out-is ∙ ap (λ (x : Outcome None World). x .out) accepts
 
-    D : Done m
-    D = record { reads = R .reads; accepted = mounts }
+    D : Accepted m
+    D = record { reads = R .reads; answer = mounts }
 
-    after-is : after m ≡ installed (w m .state) v
+    after-is : held m ≡ installed (w m .state) v
     unfolding drain standing
     after-is =
-        state-is m D ∙ ap (λ (x : Came). x .world .state) accepts
+        state-is m D ∙ ap (λ (x : Outcome None World). x .left .state) accepts
         ∙ ap (λ (ls : List ℕ). drain (m .plan) (g m) ls (standing (m .plan) (g m) (m .k) (w m)) .state) lost
 
-    counter-is : after m .counter ≡ v .counter
+    counter-is : held m .counter ≡ v .counter
     unfolding installed
     counter-is = ap (λ (s : State). s .counter) after-is
 
     -- a slot that claims nothing is in the queue
-    some-free : (j : ℕ) → j < m .k → Claimless m j → 0 < length (after m .queue)
-    some-free j b c = go (after m .queue) (claimless-free m D j b c .queued)
+    some-free : (j : ℕ) → j < m .k → Claimless m j → 0 < length (held m .queue)
+    some-free j b c = go (held m .queue) (claimless-free m D j b c .queued)
       where
         go : (q : List ℕ) → In j q → 0 < length q
         go [] n = absurd (List·Memᴰ·not-nil n)
         go (x ∷ q) n = omega arith
 
     -- the next call
-    abbrev setting : List ℕ → Setting
-    setting plan =
+    abbrev setting : List ℕ → List ℕ → List ℕ → Setting
+    setting plan second buf =
         record {
           plan = plan;
           geometry = g m;
-          lent = mounted m .left;
-          ready = mount-ready (m .plan) (g m) (m .k) (m .dev) (m .nums) (m .names) (m .dirs) mounts;
+          lent = mount m .left;
+          ready = mount-ready (m .plan) (g m) (m .k) (m .first) (m .second) (m .buf) (lends m) mounts;
+          first = [];
+          second = second;
+          buf = buf;
         }
 
   none-lost : Apart m → v .losers ≡ []
-  none-lost = first-losers (g m) (m .plan) (slotRows (m .nums)) (dirRows (m .dirs)) (m .k) (m .dev) (R .shape) (R .reads) (R .slots .1)
+  none-lost = first-losers (g m) (m .plan) (chosen m) (m .k) (m .dev) (R .shape) (R .reads) (R .slots .1)
 
   p6 : P6 m
   unfolding P6
@@ -127,15 +138,16 @@ module _ (m : Mount) (R : Room m) where
       let c : v .counter ≡ 2 ^ 63 = omega (arith, exceeds i h l e, counts .most (2 ^ 63) (omega arith) (λ j a b. most j (omega arith))) in
       let low : v .counter ≤ 2 ^ 63 = omega arith in (
         mounts lost low,
-        λ plan path keep j short N b free. open-nine (setting lost low plan) path keep short N (some-free lost low j b free) (counter-is lost low ∙ c),
+        λ plan path second buf keep j short N b free.
+            open-nine (setting lost low plan second buf) path keep short N (some-free lost low j b free) (counter-is lost low ∙ c),
       )
 
   p7 : P7 m
   unfolding P7
   p7 i h l e top =
       let y : spent ≡ true = lt-ltb (2 ^ 63) (v .counter + length (v .losers)) (omega (arith, exceeds i h l e)) in
-      let c : inner m ≡ came 9 moves = inner-is ∙ rw y in
-      out-is ∙ ap (λ (x : Came). x .out) c
+      let c : inner m ≡ only 9 moves = inner-is ∙ rw y in
+      out-is ∙ ap (λ (x : Outcome None World). x .out) c
 
   -- ---- on a blank device
 
@@ -147,36 +159,48 @@ module _ (m : Mount) (R : Room m) where
     lost = none-lost (λ i j p q e f x n a b ne h. absurd (claimless i a p e x h))
 
     counter-one : v .counter ≡ 1
-    counter-one = omega (arith, counts .start, counts .most 1 (omega arith) (λ i a b. omega (arith, ap asks (blank i (omega arith)))))
+    unfolding wants
+    counter-one = omega (arith, counts .start, counts .most 1 (omega arith) (λ i a b. omega (arith, ap wants (blank i (omega arith)))))
 
     low : v .counter ≤ 2 ^ 63
     low = omega (arith, counter-one)
 
     no-dir : v .dirs ≡ []
-    no-dir = go (v .dirs) (first-dirs (g m) (m .plan) (slotRows (m .nums)) (dirRows (m .dirs)) (m .k) (m .dev) (R .shape) (R .reads) (R .slots .1) .only)
+    no-dir = go (v .dirs) (claims .only)
       where
-        go : (ds : List (List ℕ)) → ((d : List ℕ) → In d ds → (j : ℕ) × (q : List ℕ) × (f : ℕ) × (n : ℕ) × (j < m .k) × (head m j ≡ claim q f n) × In d (ancestors q)) → ds ≡ []
+        go : (ds : List (List ℕ))
+            → ((d : List ℕ) → In d ds
+            → (j : ℕ) × (q : List ℕ) × (f : ℕ) × (n : ℕ) × (j < m .k) × (head m j ≡ claim q f n) × In d (ancestors q))
+            → ds ≡ []
         go [] f = refl
         go (d ∷ ds) f = let r = f d (List·Memᴰ·head refl) in absurd (claimless (r .0) (r .4) (r .1) (r .2) (r .3) (r .5))
 
-    fits : (path : List ℕ) → length (ancestors path) ≤ dirRows (m .dirs) → length (registered (after m .dirs) path) ≤ after m .dirCap
+    fits : (path : List ℕ) → length (ancestors path) ≤ dirRows (m .dirs)
+        → length (registered (held m .dirs) path) ≤ held m .chosen .«dir_rows»
     unfolding installed emptyState
     fits path h =
-        let d : after m .dirs ≡ [] = ap (λ (s : State). s .dirs) (after-is lost low) ∙ no-dir in
-        let c : after m .dirCap ≡ dirRows (m .dirs) = ap (λ (s : State). s .dirCap) (after-is lost low) in
-        omega (arith, ap (λ (ds : List (List ℕ)). length (registered ds path)) d, c, length-registered [] path, absent-few [] (ancestors path))
+        let d : held m .dirs ≡ [] = ap (λ (s : State). s .dirs) (after-is lost low) ∙ no-dir in
+        let c : held m .chosen .«dir_rows» ≡ dirRows (m .dirs) = ap (λ (s : State). s .chosen .«dir_rows») (after-is lost low) in
+        let n = ap (λ (ds : List (List ℕ)). length (registered ds path)) d in
+        omega (arith, n, c, length-registered [] path, absent-few [] (ancestors path))
 
-    not-there : (path : List ℕ) → isFile path (after m) ≡ false
+    not-there : (path : List ℕ) → isFile path (held m) ≡ false
     not-there path =
         let r = rule m (D lost low) in
-        le-ltb (find path (rows m)) (length (rows m)) (omega (arith, r .size, r .unclaimed path (λ j q f n l h. absurd (claimless j l q f n h))))
+        le-ltb (find path (rows m)) (length (rows m))
+        (omega (arith, r .size, r .unclaimed path (λ j q f n l h. absurd (claimless j l q f n h))))
 
-    blank-opens : (plan path : List ℕ) (keep : Bool) → isText path ≡ true → length path ≤ 480 → length (ancestors path) ≤ dirRows (m .dirs)
-        → Untouched plan 1 (mounted m .left .dev .place) → openWriteP plan (g m) path keep (mounted m .left) .out ≡ 0
+    blank-opens : (plan path second buf : List ℕ) (keep : Bool) → isText path ≡ true → length path ≤ 480
+        → length (ancestors path) ≤ dirRows (m .dirs)
+        → Untouched plan 1 (mount m .left .dev .place) → callP plan (g m) (OpenWrite keep) path second buf (mount m .left) .number ≡ 0
     unfolding P1
-    blank-opens plan path keep t short h calm =
-        p1 (setting lost low plan) path keep .0 short (record { text = t; new = not-there path; dirs = fits path h })
-        (record { free = some-free lost low 0 some (claimless 0 some); left = omega (arith, counter-is lost low, counter-one); calm = calm })
+    blank-opens plan path second buf keep t short h calm =
+        p1 (setting lost low plan second buf) path keep .0 short (record { text = t; new = not-there path; dirs = fits path h })
+        (record {
+          free = some-free lost low 0 some (claimless 0 some);
+          left = omega (arith, counter-is lost low, counter-one);
+          calm = calm;
+        })
         .answer
 
 pub table-p : TableP

@@ -1,10 +1,11 @@
--- The statements of specs/Demand3.antt are the model's, in the words of real rows and headers: each follows from the model's of the same name.
+-- The statements of specs/Demand3.antt are the model's, in the words of real rows and headers: each follows from the model's of the same
+-- name.
 use Prim.Native.Nat.{ℕ, _+_, _≤_}
 use mathlib.Core.Path.{_≡_, refl, sym, ap, subst, _∙_}
 use mathlib.Core.Logic.{_↔_}
 use mathlib.Core.Bool.{true, false≢true}
 use mathlib.Core.List.{List, [], _∷_, map}
-use lib.ListN.{length}
+use lib.ListN.{length, length-map}
 use Rattle.device.specs.declared.Geometry.{Geometry}
 use Rattle.device.specs.Device.{Shape}
 use Rattle.rows.specs.Rows.{Row, unbound, bound, at, isBound, pathOf, genOf, lenOf, find}
@@ -12,20 +13,23 @@ use Rattle.dirs.specs.Dirs.{Dirs}
 use Rattle.steps.specs.World.{World}
 use Rattle.steps.specs.Steps.{releaseM}
 use Rattle.survey.specs.Heads.{Head, absent, idle, claim}
+use Rattle.survey.specs.Staged.{wants}
 use Rattle.model.specs.Model.{Claim, Kit}
 use Rattle.model.specs.Model as M
 use Rattle.model.specs.Laws.{unbound≢bound, absent≢claim, idle≢claim}
 use Rattle.model.specs.Best as B
 use Rattle.model.specs.Promise as P
-use Rattle.promises.specs.Demand3.{asks, Untouched, Best, Holds, Rule, Registered, SameFiles, SameDirs, SameFree, AllFine, NoneFails, surveyed, standing}
+use Rattle.promises.specs.Demand3.{Untouched, Best, Holds, Rule, Registered, SameFiles, SameDirs, SameFree, AllFine, NoneFails}
+use Rattle.promises.specs.Demand3.{surveyed, standing}
 use Rattle.promises.proofs.Kit.{claimOf, said, realKit}
-use Rattle.promises.proofs.Bridge.{plain, map-length, rows-at, find-is, shownW, release-shown}
+use Rattle.promises.proofs.Bridge.{plain, rows-at, find-is, shownW, release-shown}
 use Rattle.promises.proofs.Adopt.{survey-is, standing-is}
 
 -- ---- rows and headers
 
 claim-same : {p q : List ℕ} {e f l m : ℕ} → p ≡ q → e ≡ f → l ≡ m → claimOf p e l ≡ claimOf q f m
-claim-same {q = q} {e = e} {f = f} {l = l} x y z = ap (λ (p : List ℕ). claimOf p e l) x ∙ ap (λ (i : ℕ). claimOf q i l) y ∙ ap (claimOf q f) z
+claim-same {q = q} {e = e} {f = f} {l = l} x y z =
+    ap (λ (p : List ℕ). claimOf p e l) x ∙ ap (λ (i : ℕ). claimOf q i l) y ∙ ap (claimOf q f) z
 
 row-claim : {A : Type 0} {c d : Claim A} → M.bound c ≡ M.bound d → c ≡ d
 row-claim h = cc
@@ -36,13 +40,14 @@ head-claim h = cc
 row-to : (r : Row) (p : List ℕ) (e l : ℕ) → isBound r ≡ true → pathOf r ≡ p → genOf r ≡ e → lenOf r ≡ l → plain r ≡ M.bound (claimOf p e l)
 unfolding isBound pathOf genOf lenOf
 row-to (unbound f) p e l b x y z = absurd (false≢true b)
-row-to (bound q f m d) p e l b x y z = ap M.bound (claim-same x y z)
+row-to (bound q f) p e l b x y z = ap M.bound (claim-same x y z)
 
-row-from : (r : Row) (p : List ℕ) (e l : ℕ) → plain r ≡ M.bound (claimOf p e l) → (isBound r ≡ true) × (pathOf r ≡ p) × (genOf r ≡ e) × (lenOf r ≡ l)
+row-from : (r : Row) (p : List ℕ) (e l : ℕ) → plain r ≡ M.bound (claimOf p e l)
+    → (isBound r ≡ true) × (pathOf r ≡ p) × (genOf r ≡ e) × (lenOf r ≡ l)
 unfolding isBound pathOf genOf lenOf
 row-from (unbound f) p e l h = absurd (unbound≢bound h)
-row-from (bound q f m d) p e l h =
-    let c : claimOf q f m ≡ claimOf p e l = row-claim h in
+row-from (bound q f) p e l h =
+    let c : claimOf q (f .gen) (f .len) ≡ claimOf p e l = row-claim h in
     (refl, ap (λ (x : Claim (List ℕ)). x .path) c, ap (λ (x : Claim (List ℕ)). x .gen) c, ap (λ (x : Claim (List ℕ)). x .len) c)
 
 pub head-from : (h : Head) (c : Claim (List ℕ)) → said h ≡ M.claim c → h ≡ claim (c .path) (c .gen) (c .len)
@@ -54,10 +59,11 @@ module _ (g : Geometry) where
   abbrev K : Kit
   K = realKit g
 
-  pub asks-is : (h : Head) → M.asks K (said h) ≡ asks h
-  asks-is absent = refl
-  asks-is (idle e) = refl
-  asks-is (claim p e l) = refl
+  pub wants-is : (h : Head) → M.wants K (said h) ≡ wants h
+  unfolding wants
+  wants-is absent = refl
+  wants-is (idle e) = refl
+  wants-is (claim p e l) = refl
 
   holds-is : (rows : List Row) (i : ℕ) (p : List ℕ) (e l : ℕ) → Holds rows i p e l ↔ M.rowAt K (map plain rows) i ≡ M.bound (claimOf p e l)
   holds-is rows i p e l = (
@@ -88,7 +94,7 @@ module _ (g : Geometry) where
     pub rule-is : (rows : List Row) → B.Rule K saids n (map plain rows) → Rule H n rows
     rule-is rows R =
         record {
-          size = sym (map-length plain rows) ∙ R .size;
+          size = sym (length-map rows plain) ∙ R .size;
           holder = λ i p e l. (
             λ h. best-is i p e l .0 (R .holder i (claimOf p e l) .0 (holds-is rows i p e l .0 h)),
             λ b. holds-is rows i p e l .1 (R .holder i (claimOf p e l) .1 (best-is i p e l .1 b)),
@@ -138,10 +144,12 @@ module _ (g : Geometry) where
   fine-are : (plan ls is : List ℕ) (w : World) → AllFine plan g is w → P.AllFine K is (shownW g plan ls w)
   unfolding AllFine P.AllFine
   fine-are plan ls [] w f = tt
-  fine-are plan ls (i ∷ is) w f = (f .0, subst (P.AllFine K is) (release-shown g plan ls i w) (fine-are plan ls is (releaseM plan g i w) (f .1)))
+  fine-are plan ls (i ∷ is) w f =
+      (f .0, subst (P.AllFine K is) (release-shown g plan ls i w) (fine-are plan ls is (releaseM plan g i w) (f .1)))
 
   -- that none fails
-  pub none-is : (plan : List ℕ) (k : ℕ) (w : World) → Shape g (w .dev .bytes) (w .dev .phys) → Dirs (w .state .dirs) → Untouched plan k (w .dev .place)
+  pub none-is : (plan : List ℕ) (k : ℕ) (w : World) → Shape g (w .dev .bytes) (w .dev .phys) → Dirs (w .state .dirs)
+      → Untouched plan k (w .dev .place)
       → length (w .state .rows) + k ≤ length (w .dev .phys) → (ls : List ℕ) → NoneFails plan g k w → P.NoneFails K k (shownW g plan ls w)
   unfolding NoneFails P.NoneFails
   none-is plan k w s D u room ls f =

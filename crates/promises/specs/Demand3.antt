@@ -1,13 +1,14 @@
--- Demand 3, about the real pool: "Each path claimed by a valid in-use header goes to its highest generation, lowest slot on a tie; mounting n slots
--- and adopting the rest equals one mount, whatever writes, flushes or truncates fail; mounting again gives the same."
--- The calls are `mountM` and `adoptM`, which the contracts of mount and adopt cite; paths are compared by components; headers are the blocks on the device.
+-- Demand 3, about the real pool: "Each path claimed by a valid in-use header goes to its highest generation, lowest slot on a tie;
+-- mounting n slots and adopting the rest equals one mount, whatever writes, flushes or truncates fail; mounting again gives the same."
+-- The calls are `mountM` and `adoptM`, which the contracts of mount and adopt cite; paths are compared by components; headers are the
+-- blocks on the device.
 --
--- What it says of the section with the basement that nobody built: two slots claim one tile's name, the raw tile and, under a higher generation, the
--- cleaned one. The cleaned tile is what every mount binds to the name, in one part or in two, whatever fails while the raw one is released, and at the
--- next mount too. (P2 in Edges has the two slots alone.)
+-- What it says of the section with the basement that nobody built: two slots claim one tile's name, the raw tile and, under a higher
+-- generation, the cleaned one. The cleaned tile is what every mount binds to the name, in one part or in two, whatever fails while the
+-- raw one is released, and at the next mount too. (P2 in Edges has the two slots alone.)
 --
 -- The statements stand here; proofs/Theorem.antt proves each.
-use Prim.Native.Nat.{ℕ, suc, _+_, _≤_, _<_, _^_}
+use Prim.Native.Nat.{ℕ, _+_, _≤_, _<_, _^_}
 use mathlib.Core.Path.{_≡_}
 use mathlib.Core.Logic.{_≢_, _⊎_, _↔_}
 use mathlib.Core.Bool.{true, false}
@@ -20,12 +21,15 @@ use Rattle.device.specs.declared.Geometry.{Geometry}
 use Rattle.device.specs.Device.{Dev, dev, Shape}
 use Rattle.device.specs.Calls.{blockOf}
 use Rattle.rows.specs.Rows.{Row, at, isBound, pathOf, genOf, lenOf, find}
+use Rattle.table.specs.declared.Chosen.{Chosen}
 use Rattle.table.specs.State.{State}
 use Rattle.steps.specs.World.{World, world}
 use Rattle.steps.specs.Steps.{fineM, freeM, releaseM}
-use Rattle.survey.specs.Heads.{Head, absent, idle, claim, headOf, Reads, readsM}
+use Rattle.steps.specs.Outcome.{Outcome, None}
+use Rattle.survey.specs.Heads.{Head, claim, headOf, Reads, readsM}
+use Rattle.survey.specs.Staged.{wants}
 use Rattle.survey.specs.Survey.{Survey, scan}
-use Rattle.mount.specs.Mount.{Came, begin, installed, moved, adoptM, emptyState, mountM}
+use Rattle.mount.specs.Mount.{begin, installed, moved, adoptM, emptyState, mountM}
 
 -- ---- the headers on the device
 
@@ -33,20 +37,14 @@ use Rattle.mount.specs.Mount.{Came, begin, installed, moved, adoptM, emptyState
 unfoldable pub headerAt : Geometry → Dev → ℕ → Head
 headerAt g d i = headOf (blockOf g i d)
 
--- "Counter .. exceeds every valid header's generation": one more than the generation, 0 where no header is valid.
-abbrev pub asks : Head → ℕ
-asks absent = 0
-asks (idle g) = suc g
-asks (claim p g n) = suc g
-
 -- The k calls from this place of the plan on are neither failed nor cut short: their plan bytes are not 1 or 2.
 unfoldable pub Untouched : List ℕ → ℕ → Place → Type 0
 Untouched plan k p = (j : ℕ) → j < k → (getD plan (p .at + j) 0 ≢ 1) × (getD plan (p .at + j) 0 ≢ 2)
 
 -- ---- "goes to its highest generation, lowest slot on a tie"
 
--- Slot i, which claims path p under generation e with length l, is the best claim of its path among the first n headers H: each other claim of an equal path
--- has a lower generation, or an equal one in a higher slot.
+-- Slot i, which claims path p under generation e with length l, is the best claim of its path among the first n headers H: each other
+-- claim of an equal path has a lower generation, or an equal one in a higher slot.
 pub record Best (H : ℕ → Head) (n i : ℕ) (p : List ℕ) (e l : ℕ) : Type 0 where
   pub among : i < n
   pub claims : H i ≡ claim p e l
@@ -114,28 +112,28 @@ unfoldable pub NoneFails : List ℕ → Geometry → ℕ → World → Type 0
 NoneFails plan g k w = AllFine plan g (surveyed plan g k w .losers) (standing plan g k w)
 
 -- The pool s, mounted again as c: accepted, with the same files and directories, and the same free slots where none failed.
-pub record Again (Quiet : Type 0) (s : State) (c : Came) : Type 0 where
+pub record Again (Quiet : Type 0) (s : State) (c : Outcome None World) : Type 0 where
   pub accepted : c .out ≡ 0
-  pub files : SameFiles s (c .world .state)
-  pub dirs : SameDirs s (c .world .state)
-  pub free : Quiet → SameFree s (c .world .state)
+  pub files : SameFiles s (c .left .state)
+  pub dirs : SameDirs s (c .left .state)
+  pub free : Quiet → SameFree s (c .left .state)
 
 -- ---- the two ways
 
--- A device, n + m of its slots, slot rows and directory rows for them, two plans with a place in each, and a third for the next mount.
+-- A device, n + m of its slots, as many slot rows and directory rows as are lent for them, two plans with a place in each, and a third
+-- for the next mount.
 pub record Trial : Type 0 where
   pub geometry : Geometry
   pub bytes : List ℕ
   pub phys : List ℕ
-  pub cap : ℕ
-  pub dirCap : ℕ
+  pub chosen : Chosen
   pub n : ℕ
   pub m : ℕ
-  pub one : List ℕ
+  pub planOne : List ℕ
   pub here : Place
-  pub two : List ℕ
+  pub planTwo : List ℕ
   pub there : Place
-  pub three : List ℕ
+  pub planThree : List ℕ
   pub later : Place
 
 module _ (t : Trial) where
@@ -144,87 +142,93 @@ module _ (t : Trial) where
   headers = headerAt (t .geometry) (dev (t .bytes) (t .phys) (t .here))
 
   -- The device with no pool yet, under the first plan and under the second.
-  abbrev pub first : World
-  first = world (dev (t .bytes) (t .phys) (t .here)) (emptyState (t .cap) (t .dirCap))
+  abbrev pub emptyOne : World
+  emptyOne = world (dev (t .bytes) (t .phys) (t .here)) (emptyState (t .chosen))
 
-  abbrev pub second : World
-  second = world (dev (t .bytes) (t .phys) (t .there)) (emptyState (t .cap) (t .dirCap))
+  abbrev pub emptyTwo : World
+  emptyTwo = world (dev (t .bytes) (t .phys) (t .there)) (emptyState (t .chosen))
 
   -- All n + m slots in one mount, under the first plan.
-  abbrev pub whole : Came
-  whole = mountM (t .one) (t .geometry) (t .cap) (t .dirCap) (t .n + t .m) (first .dev)
+  abbrev pub whole : Outcome None World
+  whole = mountM (t .planOne) (t .geometry) (t .chosen) (t .n + t .m) (emptyOne .dev)
 
   -- The first n slots, under the second plan,
-  abbrev pub part : Came
-  part = mountM (t .two) (t .geometry) (t .cap) (t .dirCap) (t .n) (second .dev)
+  abbrev pub firstPart : Outcome None World
+  firstPart = mountM (t .planTwo) (t .geometry) (t .chosen) (t .n) (emptyTwo .dev)
 
   -- and the other m adopted.
-  abbrev pub both : Came
-  both = adoptM (t .two) (t .geometry) (t .m) (part .world)
+  abbrev pub both : Outcome None World
+  both = adoptM (t .planTwo) (t .geometry) (t .m) (firstPart .left)
 
   -- What either left on the device, mounted again over the same rows, under the third plan.
-  abbrev pub wholeAgain : Came
-  wholeAgain = mountM (t .three) (t .geometry) (t .cap) (t .dirCap) (t .n + t .m) (dev (whole .world .dev .bytes) (whole .world .dev .phys) (t .later))
+  abbrev pub wholeAgain : Outcome None World
+  wholeAgain =
+      mountM (t .planThree) (t .geometry) (t .chosen) (t .n + t .m)
+      (dev (whole .left .dev .bytes) (whole .left .dev .phys) (t .later))
 
-  abbrev pub bothAgain : Came
-  bothAgain = mountM (t .three) (t .geometry) (t .cap) (t .dirCap) (t .n + t .m) (dev (both .world .dev .bytes) (both .world .dev .phys) (t .later))
+  abbrev pub bothAgain : Outcome None World
+  bothAgain =
+      mountM (t .planThree) (t .geometry) (t .chosen) (t .n + t .m)
+      (dev (both .left .dev .bytes) (both .left .dev .phys) (t .later))
 
   -- No write, flush or truncate fails in the one mount; in the two parts.
   abbrev pub QuietWhole : Type 0
-  QuietWhole = NoneFails (t .one) (t .geometry) (t .n + t .m) first
+  QuietWhole = NoneFails (t .planOne) (t .geometry) (t .n + t .m) emptyOne
 
   abbrev pub QuietBoth : Type 0
-  QuietBoth = NoneFails (t .two) (t .geometry) (t .n) second × NoneFails (t .two) (t .geometry) (t .m) (part .world)
+  QuietBoth = NoneFails (t .planTwo) (t .geometry) (t .n) emptyTwo × NoneFails (t .planTwo) (t .geometry) (t .m) (firstPart .left)
 
   -- THE PREMISES, and why each is there.
   pub record Given : Type 0 where
     -- 01's number 2: the device has the right shape, and there are at most 64 slot rows
     pub shape : Shape (t .geometry) (t .bytes) (t .phys)
-    pub few : t .cap ≤ 64
-    -- no header read failed or was cut short by its plan: a slot whose header isn't seen is taken as free by the one and as a claim by the other
-    pub reads-whole : Untouched (t .one) (t .n + t .m) (t .here)
-    pub reads-part : Untouched (t .two) (t .n) (t .there)
-    pub reads-both : Untouched (t .two) (t .m) (part .world .dev .place)
+    pub few : t .chosen .rows ≤ 64
+    -- no header read failed or was cut short by its plan: a slot whose header isn't seen is taken as free by the one and as a claim by
+    -- the other
+    pub reads-whole : Untouched (t .planOne) (t .n + t .m) (t .here)
+    pub reads-part : Untouched (t .planTwo) (t .n) (t .there)
+    pub reads-both : Untouched (t .planTwo) (t .m) (firstPart .left .dev .place)
     -- one mount of everything over the same rows is accepted: else there is nothing to compare with
     pub accepted : whole .out ≡ 0
 
-  -- Valid generations are below 2^62.
+  -- Valid generations are below 2^62: what a header wants of the counter is one more than its generation, and 0 where it isn't valid.
   unfoldable pub Below62 : Type 0
-  Below62 = (i : ℕ) → i < t .n + t .m → asks (headers i) ≤ 2 ^ 62
+  Below62 = (i : ℕ) → i < t .n + t .m → wants (headers i) ≤ 2 ^ 62
 
-  -- "Each path claimed by a valid in-use header goes to its highest generation, lowest slot on a tie", after either; and so are its ancestors registered.
+  -- "Each path claimed by a valid in-use header goes to its highest generation, lowest slot on a tie", after either; and so are its
+  -- ancestors registered.
   pub record TheRule : Type 0 where
-    pub rule-whole : Rule headers (t .n + t .m) (whole .world .state .rows)
-    pub rule-both : Rule headers (t .n + t .m) (both .world .state .rows)
-    pub dirs-whole : Registered headers (t .n + t .m) (whole .world .state .dirs)
-    pub dirs-both : Registered headers (t .n + t .m) (both .world .state .dirs)
+    pub rule-whole : Rule headers (t .n + t .m) (whole .left .state .rows)
+    pub rule-both : Rule headers (t .n + t .m) (both .left .state .rows)
+    pub dirs-whole : Registered headers (t .n + t .m) (whole .left .state .dirs)
+    pub dirs-both : Registered headers (t .n + t .m) (both .left .state .dirs)
 
-  -- "Mounting n slots and adopting the rest equals one mount, whatever writes, flushes or truncates fail": both parts are accepted, and give the same
-  -- files and the same directories, even in order. No premise speaks of what fails.
+  -- "Mounting n slots and adopting the rest equals one mount, whatever writes, flushes or truncates fail": both parts are accepted, and
+  -- give the same files and the same directories, even in order. No premise speaks of what fails.
   pub record SplitIsOneMount : Type 0 where
-    pub part-accepted : part .out ≡ 0
+    pub part-accepted : firstPart .out ≡ 0
     pub both-accepted : both .out ≡ 0
-    pub files : SameFiles (both .world .state) (whole .world .state)
-    pub dirs : both .world .state .dirs ≡ whole .world .state .dirs
+    pub files : SameFiles (both .left .state) (whole .left .state)
+    pub dirs : both .left .state .dirs ≡ whole .left .state .dirs
 
   -- Where none fails the free slots are the same too. (A slot whose release failed is neither bound nor free.)
   unfoldable pub FreeSlotsSame : Type 0
-  FreeSlotsSame = QuietWhole → QuietBoth → SameFree (both .world .state) (whole .world .state)
+  FreeSlotsSame = QuietWhole → QuietBoth → SameFree (both .left .state) (whole .left .state)
 
   -- "Mounting again gives the same", after either, where the header reads of that mount are not touched.
   unfoldable pub AgainWhole : Type 0
-  AgainWhole = Untouched (t .three) (t .n + t .m) (t .later) → Again QuietWhole (whole .world .state) wholeAgain
+  AgainWhole = Untouched (t .planThree) (t .n + t .m) (t .later) → Again QuietWhole (whole .left .state) wholeAgain
 
   unfoldable pub AgainBoth : Type 0
-  AgainBoth = Untouched (t .three) (t .n + t .m) (t .later) → Again QuietBoth (both .world .state) bothAgain
+  AgainBoth = Untouched (t .planThree) (t .n + t .m) (t .later) → Again QuietBoth (both .left .state) bothAgain
 
 -- THE DEMAND, for any two plans, and any third at the next mount.
 unfoldable pub Demand3 : Type 0
 Demand3 = (t : Trial) → Given t → Below62 t → TheRule t × SplitIsOneMount t × FreeSlotsSame t × AgainWhole t × AgainBoth t
 
--- The same for all generations, where "mounting again" asks that none of the first mount's releases failed: the parts ask for no higher counter than
--- the whole. (A loser whose release failed loses again, and asks for one more generation than may be left: three claims of one path, the highest of
--- generation 2^63 - 3, and the first release fails.)
+-- The same for all generations, where "mounting again" asks that none of the first mount's releases failed: the parts ask for no higher
+-- counter than the whole. (A loser whose release failed loses again, and asks for one more generation than may be left: three claims of
+-- one path, the highest of generation 2^63 - 3, and the first release fails.)
 unfoldable pub Demand3OfAll : Type 0
 Demand3OfAll = (t : Trial) → Given t
     → TheRule t × SplitIsOneMount t × FreeSlotsSame t × (QuietWhole t → AgainWhole t) × (QuietBoth t → AgainBoth t)

@@ -1,5 +1,10 @@
+-- What is promised of the pool, in the order to read it. (That every public call has one outcome, that it leaves a pool as one, and that
+-- a call which doesn't write leaves everything, is said of all sixteen at once in crate calls, specs/Promises.antt.)
+-- Demand 3, of the mount and the adoption;
 pub mod Demand3
+-- of the buffers that their code leaves;
 pub mod Buffers
+-- table P, both sides of each edge, of the public calls;
 pub mod Edges
-pub mod Outcomes
+-- and all of it through the public face.
 pub mod Face

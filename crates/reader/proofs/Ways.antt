@@ -16,7 +16,8 @@ use Rattle.reader.specs.declared.Span.{Span}
 use Rattle.reader.specs.declared.Form.{Form}
 use Rattle.reader.specs.declared.Op.{Op}
 use Rattle.reader.specs.declared.Setup.{Setup}
-use Rattle.reader.specs.Format.{span, noSpan, spanAt, spanIf, part, form, forms, formOf, noForm, noOp, opOf, runsAt, argsOf, opAt, limitsOk, noSetup, behindPlan, setupAt, lengthAt, Patching, patching, placed, patchAt, patchedM}
+use Rattle.reader.specs.Format.{span, noSpan, spanAt, spanIf, part, form, forms, lastCode, formOf, noForm, noOp, opOf, runsAt}
+use Rattle.reader.specs.Format.{argsOf, opAt, limitsOk, noSetup, behindPlan, setupAt, lengthAt, Patching, patching, placed, patchAt, patchedM}
 
 -- ---- runs
 
@@ -84,11 +85,11 @@ module _ (s : List ℕ) (i : ℕ) where
   op-end h = rw (le-leb _ _ h)
 
   module _ (h : i < length s) where
-    pub op-unknown : 16 < getD s i 0 → noOp ≡ opAt s i
+    pub op-unknown : lastCode < getD s i 0 → noOp ≡ opAt s i
     unfolding opAt
     op-unknown l = rw (lt-leb _ _ h, lt-ltb _ _ l)
 
-    module _ (l : getD s i 0 ≤ 16) where
+    module _ (l : getD s i 0 ≤ lastCode) where
       pub op-zero : getD s i 0 ≡ 0 → noOp ≡ opAt s i
       unfolding opAt
       op-zero z = rw (lt-leb _ _ h, le-ltb _ _ l, eq-eqb _ _ z)

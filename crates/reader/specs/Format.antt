@@ -77,6 +77,10 @@ forms =
     ∷ form 0 0 0 0 1 0 0 8 0 1  -- 16 metadata: run path; length u64, u8 is a directory
     ∷ []
 
+-- The last of the codes.
+abbrev pub lastCode : ℕ
+lastCode = 16
+
 unfoldable pub formOf : ℕ → Form
 formOf code = getD forms code noForm
 
@@ -116,7 +120,7 @@ argsOf s i code =
 unfoldable pub opAt : List ℕ → ℕ → Op
 opAt s i =
     cond (leb (length s) i) noOp
-    (cond (ltb 16 (getD s i 0)) noOp
+    (cond (ltb lastCode (getD s i 0)) noOp
     (cond (eqb (getD s i 0) 0) noOp
     (argsOf s (i + 1) (getD s i 0))))
 

@@ -9,13 +9,15 @@ use borrow.Author.Tests.{leb-true, leb-false, ltb-true, ltb-false, eqb-true, eqb
 use lib.Dec.{eqb, leb, ltb}
 use lib.ListN.{length, getD, take, drop, length-take}
 use lib.Seq.{sets}
+use Rattle.lists.specs.Bools.{both}
 use Rattle.le.specs.Le.{field, Bytes}
 use Rattle.le.specs.Fields.{unle-lt, bytes-take, bytes-drop}
 use Rattle.reader.specs.declared.Span.{Span}
 use Rattle.reader.specs.declared.Form.{Form}
 use Rattle.reader.specs.declared.Op.{Op}
 use Rattle.reader.specs.declared.Setup.{Setup}
-use Rattle.reader.specs.Format.{span, noSpan, spanAt, spanIf, forms, formOf, noForm, noOp, opOf, runsAt, argsOf, opAt, part, Patching, patching, placed, patchAt, limitsOk, noSetup, behindPlan, setupAt}
+use Rattle.reader.specs.Format.{span, noSpan, spanAt, spanIf, forms, lastCode, formOf, noForm, noOp, opOf, runsAt}
+use Rattle.reader.specs.Format.{argsOf, opAt, part, Patching, patching, placed, patchAt, limitsOk, noSetup, behindPlan, setupAt}
 
 -- A run lies inside of the script, behind the place i where it was looked for if it is whole.
 pub record Inside (s : List ℕ) (i : ℕ) (r : Span) : Type 0 where
@@ -46,10 +48,6 @@ span-if-inside false s i l = record { order = omega arith; end = l; behind = λ 
 abbrev allLe : (Form → ℕ) → ℕ → List Form → Bool
 allLe f k [] = true
 allLe f k (r ∷ l) = leb (f r) k && allLe f k l
-
-both : (a b : Bool) → (a && b) ≡ true → (a ≡ true) × (b ≡ true)
-both true b h = (refl, h)
-both false b h = absurd (false≢true h)
 
 below : (f : Form → ℕ) (k : ℕ) (l : List Form) → f noForm ≤ k → allLe f k l ≡ true → (i : ℕ) → f (getD l i noForm) ≤ k
 below f k [] z h i = z
@@ -104,7 +102,7 @@ pub record Held (s : List ℕ) (o : Op) : Type 0 where
 pub record Sound (s : List ℕ) (i : ℕ) (o : Op) : Type 0 where
   pub held : Held s o
   pub further : i < o .second .to
-  pub code : o .code < 17
+  pub code : o .code ≤ lastCode
   pub small : o .n < 65536
 
 -- ---- the same for the operation that was read
@@ -116,7 +114,7 @@ module _ (s : List ℕ) (b : Bytes s) where
   no-read : (i : ℕ) → Read i noOp
   no-read i h = absurd (h refl)
 
-  module _ (i code : ℕ) (c : code < 17) where
+  module _ (i code : ℕ) (c : code ≤ lastCode) where
     abbrev f : Form
     f = formOf code
 
@@ -160,13 +158,13 @@ module _ (s : List ℕ) (b : Bytes s) where
 
   pub op-sound : (i : ℕ) → Read i (opAt s i)
   unfolding opAt
-  op-sound i = go (leb (length s) i) (ltb 16 (getD s i 0)) (eqb (getD s i 0) 0) refl
+  op-sound i = go (leb (length s) i) (ltb lastCode (getD s i 0)) (eqb (getD s i 0) 0) refl
     where
-      go : (x y z : Bool) → ltb 16 (getD s i 0) ≡ y → Read i (cond x noOp (cond y noOp (cond z noOp (argsOf s (i + 1) (getD s i 0)))))
+      go : (x y z : Bool) → ltb lastCode (getD s i 0) ≡ y → Read i (cond x noOp (cond y noOp (cond z noOp (argsOf s (i + 1) (getD s i 0)))))
       go true y z v = no-read i
       go false true z v = no-read i
       go false false true v = no-read i
-      go false false false v = args-sound i (getD s i 0) (omega (arith, ltb-false 16 (getD s i 0) v))
+      go false false false v = args-sound i (getD s i 0) (omega (arith, ltb-false lastCode (getD s i 0) v))
 
 -- ---- patches
 

@@ -1,13 +1,20 @@
-// A script, read (docs/EXPORTS.md): a setup, and then operations to the end. What is cut off, has no code of the table, or passes the script's
-// limits is said so, and nothing of it is used. A place is an index of the script.
+// A script, read (docs/EXPORTS.md): a setup, and then operations to the end. What is cut off, has no code of the table, or passes the
+// script's limits is said so, and nothing of it is used. A place is an index of the script.
 ghost use mathlib.Core.Path.{_≡_};
 ghost use Prim.Native.Nat.{_+_, _*_, _≤_, _<_};
 ghost use lib.ListN.{length};
 ghost use Rattle.lists.specs.Runs.{tab};
-ghost use Rattle.reader.specs.Format.{noSpan, spanAt, spanIf, formOf, noOp, argsOf, opAt, limitsOk, noSetup, behindPlan, setupAt, lengthAt, patching, patchAt, patchedM};
+ghost use Rattle.reader.specs.Format.{noSpan, spanAt, spanIf, lastCode, formOf, noOp, argsOf, opAt};
+ghost use Rattle.reader.specs.Format.{limitsOk, noSetup, behindPlan, setupAt, lengthAt, patching, patchAt, patchedM};
 
 // The longest script, in bytes: one less than this. So the output's length fits 64 bits.
 const LONGEST: usize = 0x100_0000_0000;
+
+// The last code of the table of operations.
+const LAST_CODE: usize = 16;
+
+// How many rows the table has, with that of 0, which is no operation's.
+const CODES: usize = LAST_CODE + 1;
 
 // A run of bytes: where they start and end. If it is cut off, `whole` is false and the rest zero.
 pub struct Span {
@@ -30,7 +37,8 @@ pub struct Form {
     pub gives_yes: usize,
 }
 
-// An operation: its code, its arguments, those it does not have zero or empty. Code 0 stands for none. The next operation is at `second.to`.
+// An operation: its code, its arguments, those it does not have zero or empty. Code 0 stands for none. The next operation is at
+// `second.to`.
 pub struct Op {
     pub code: usize,
     pub slot: usize,
@@ -106,19 +114,19 @@ fn run_if(s: &[u8], i: usize, wanted: bool) -> Span
 
 // The row of the table for a code.
 pub fn form_of(code: usize) -> Form
-    requires { ⌜ code < 17 ⌝ }
+    requires { ⌜ code ≤ lastCode ⌝ }
     ensures { λ r. ⌜ r ≡ formOf code ⌝ }
 {
-    let slot: [usize; 17] = [0, 0, 0, 0, 0, 4, 4, 4, 4, 4, 0, 0, 0, 0, 0, 0, 0];
-    let generation: [usize; 17] = [0, 0, 0, 0, 0, 8, 8, 8, 8, 8, 0, 0, 0, 0, 0, 0, 0];
-    let at: [usize; 17] = [0, 0, 0, 0, 0, 8, 8, 8, 0, 0, 0, 0, 0, 0, 0, 0, 0];
-    let n: [usize; 17] = [0, 1, 1, 1, 0, 2, 0, 0, 0, 0, 0, 0, 0, 0, 2, 0, 0];
-    let runs: [usize; 17] = [0, 0, 0, 1, 1, 0, 1, 0, 0, 0, 1, 2, 1, 1, 1, 1, 1];
-    let gives_slot: [usize; 17] = [0, 0, 0, 4, 4, 0, 0, 0, 0, 0, 0, 0, 0, 0, 0, 0, 0];
-    let gives_generation: [usize; 17] = [0, 0, 0, 8, 8, 0, 0, 0, 0, 0, 0, 0, 0, 0, 0, 0, 0];
-    let gives_len: [usize; 17] = [0, 0, 0, 8, 0, 0, 0, 0, 8, 0, 0, 0, 0, 0, 0, 0, 8];
-    let gives_count: [usize; 17] = [0, 0, 0, 0, 0, 4, 0, 0, 0, 0, 0, 0, 0, 0, 4, 0, 0];
-    let gives_yes: [usize; 17] = [0, 0, 0, 0, 0, 0, 0, 0, 0, 0, 0, 0, 0, 0, 0, 1, 1];
+    let slot: [usize; CODES] = [0, 0, 0, 0, 0, 4, 4, 4, 4, 4, 0, 0, 0, 0, 0, 0, 0];
+    let generation: [usize; CODES] = [0, 0, 0, 0, 0, 8, 8, 8, 8, 8, 0, 0, 0, 0, 0, 0, 0];
+    let at: [usize; CODES] = [0, 0, 0, 0, 0, 8, 8, 8, 0, 0, 0, 0, 0, 0, 0, 0, 0];
+    let n: [usize; CODES] = [0, 1, 1, 1, 0, 2, 0, 0, 0, 0, 0, 0, 0, 0, 2, 0, 0];
+    let runs: [usize; CODES] = [0, 0, 0, 1, 1, 0, 1, 0, 0, 0, 1, 2, 1, 1, 1, 1, 1];
+    let gives_slot: [usize; CODES] = [0, 0, 0, 4, 4, 0, 0, 0, 0, 0, 0, 0, 0, 0, 0, 0, 0];
+    let gives_generation: [usize; CODES] = [0, 0, 0, 8, 8, 0, 0, 0, 0, 0, 0, 0, 0, 0, 0, 0, 0];
+    let gives_len: [usize; CODES] = [0, 0, 0, 8, 0, 0, 0, 0, 8, 0, 0, 0, 0, 0, 0, 0, 8];
+    let gives_count: [usize; CODES] = [0, 0, 0, 0, 0, 4, 0, 0, 0, 0, 0, 0, 0, 0, 4, 0, 0];
+    let gives_yes: [usize; CODES] = [0, 0, 0, 0, 0, 0, 0, 0, 0, 0, 0, 0, 0, 0, 0, 1, 1];
     Form {
         slot: slot[code],
         generation: generation[code],
@@ -156,7 +164,7 @@ pub fn op_at(s: &[u8], i: usize) -> Op
         return no_op();
     }
     let code = s[i] as usize;
-    if 16 < code {
+    if LAST_CODE < code {
         return no_op();
     }
     if code == 0 {
@@ -167,7 +175,7 @@ pub fn op_at(s: &[u8], i: usize) -> Op
 
 // The operation of a code whose arguments are at i, or none.
 fn args_of(s: &[u8], i: usize, code: usize) -> Op
-    requires { ⌜ (i ≤ length (now s)) × (code < 17) ⌝ }
+    requires { ⌜ (i ≤ length (now s)) × (code ≤ lastCode) ⌝ }
     ensures { λ r. ⌜ r ≡ argsOf (now (s .entry)) i code ⌝ }
 {
     let f = form_of(code);
@@ -318,8 +326,8 @@ fn patch_one(s: &[u8], i: usize, bytes: &mut [u8]) -> Span
     run
 }
 
-// Lays the patches at i over the device, one after the other, and gives the place behind them, where the operations start. At the first that
-// is cut off or not inside of the device it stops.
+// Lays the patches at i over the device, one after the other, and gives the place behind them, where the operations start. At the first
+// that is cut off or not inside of the device it stops.
 pub fn patch(s: &[u8], i: usize, count: usize, bytes: &mut [u8]) -> Span
     requires { ⌜ i ≤ length (now s) ⌝ }
     ensures { λ r. ⌜ patching r (now (bytes .exit)) ≡ patchedM (now (s .entry)) count i (now (bytes .entry)) ⌝ }

@@ -4,11 +4,11 @@ use mathlib.Core.Bool.{false}
 use mathlib.Core.List.{List, [], _∷_, map}
 use Prim.Native.Nat.{ℕ}
 use Rattle.lists.specs.Blocks.{cat}
-use Rattle.rows.specs.Rows.{Row, unbound, bound, markOf}
+use Rattle.rows.specs.Rows.{Row, file, unbound, bound, markOf}
 use Rattle.records.specs.Records.{slotOf, slotNums, numsOf, slotsOf}
 
 two : List Row
-two = bound (97 ∷ 47 ∷ 98 ∷ []) 5 7 false ∷ unbound 2 ∷ []
+two = bound (97 ∷ 47 ∷ 98 ∷ []) (file 5 7 false) ∷ unbound 2 ∷ []
 
 numbers : List ℕ
 numbers = 1 ∷ 3 ∷ 7 ∷ 5 ∷ 0 ∷ 0 ∷ 0 ∷ 2 ∷ []

@@ -61,7 +61,7 @@ pub nums-rows : (rs : List Row) → numsOf (map slotOf rs) ≡ cat rowNums rs
 unfolding numsOf cat slotNums slotOf rowNums
 nums-rows [] = refl
 nums-rows (unbound g ∷ rs) = ap (λ (x : List ℕ). 0 ∷ 0 ∷ 0 ∷ g ∷ x) (nums-rows rs)
-nums-rows (bound p g n d ∷ rs) = ap (λ (x : List ℕ). rowNums (bound p g n d) ++ x) (nums-rows rs)
+nums-rows (bound p f ∷ rs) = ap (λ (x : List ℕ). rowNums (bound p f) ++ x) (nums-rows rs)
 
 drop-zeros : (k n : ℕ) → drop {A = ℕ} k (replicate n 0) ≡ replicate (n - k) 0
 drop-zeros zero n = let e : n - 0 ≡ n = omega arith in rw e

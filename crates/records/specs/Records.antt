@@ -17,7 +17,7 @@ slotAt rs i = getD rs i none
 -- the record of a row of crate rows: all of the row but its path
 unfoldable pub slotOf : Row → Slot
 slotOf (unbound g) = record { mark = 0; «path_len» = 0; len = 0; generation = g }
-slotOf (bound p g n d) = record { mark = markOf d; «path_len» = length p; len = n; generation = g }
+slotOf (bound p f) = record { mark = markOf (f .dirty); «path_len» = length p; len = f .len; generation = f .gen }
 
 -- ---- the flat numbers
 

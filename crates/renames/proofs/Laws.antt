@@ -13,18 +13,20 @@ use Rattle.header.specs.declared.Header.{Header}
 use Rattle.header.specs.Block.{boundHeader, encoded}
 use Rattle.device.specs.declared.Geometry.{Geometry}
 use Rattle.device.specs.Device.{Dev, Shape}
-use Rattle.rows.specs.Rows.{Row, bound, at, isBound, lenOf, resized, find, rowsOf, Flat}
+use Rattle.rows.specs.Rows.{Row, file, bound, at, isBound, lenOf, resized, find, rowsOf, Flat}
 use Rattle.rows.specs.Laws.{length-rows}
 use Rattle.dirs.specs.Dirs.{registered}
 use Rattle.dirs.specs.Rows.{dirsOf}
+use Rattle.table.specs.declared.Chosen.{Chosen}
 use Rattle.table.specs.declared.Pool.{Pool}
 use Rattle.table.specs.State.{State, Valid, Bufs, bufs, view, poolOf, queueOf, flat, IsPool}
 use Rattle.table.specs.Queue.{spent, ticked}
 use Rattle.table.specs.Laws.{pool-rows, spend-flat}
+use Rattle.table.specs.Changes.{withRow, row-flat}
 use Rattle.steps.specs.World.{World, world, Lent, lent, viewW, flatW, Fit, Ready}
-use Rattle.steps.specs.Steps.{fineM, putM, withRow, releaseM}
-use Rattle.steps.specs.Laws.{world-is, ready-fit, lent-stays, row-flat}
-use Rattle.handles.specs.Outcome.{Outcome, outcome, flatO, None, came}
+use Rattle.steps.specs.Steps.{fineM, putM, releaseM}
+use Rattle.steps.specs.Laws.{world-is, ready-fit, lent-stays}
+use Rattle.steps.specs.Outcome.{Outcome, outcome, flatO, None, came}
 use Rattle.handles.specs.Laws.{stays}
 use Rattle.files.specs.Files.{roomFor, registers, binds}
 use Rattle.renames.specs.declared.Course.{Course}
@@ -87,11 +89,11 @@ module _ (b : Bufs) (from to : List ℕ) where
       front-none h = rw (fits, q, no-file h)
 
       module _ (h : i < b .pool .held) (j : ℕ) (ej : j ≡ find to (rowsIn b)) (need : ℕ) (en : need ≡ cond (ltb j (b .pool .held)) 2 1)
-          (n : ℕ) (er : n ≡ roomFor need to (b .pool .«dir_rows») (dirsIn b) (b .pool .counter)) where
-        room-is : roomFor (cond (ltb (find to (rowsIn b)) (length (rowsIn b))) 2 1) to (b .pool .«dir_rows») (dirsIn b) (b .pool .counter) ≡ n
+          (n : ℕ) (er : n ≡ roomFor need to (b .pool .chosen .«dir_rows») (dirsIn b) (b .pool .counter)) where
+        room-is : roomFor (cond (ltb (find to (rowsIn b)) (length (rowsIn b))) 2 1) to (b .pool .chosen .«dir_rows») (dirsIn b) (b .pool .counter) ≡ n
         room-is =
             let k : cond (ltb (find to (rowsIn b)) (length (rowsIn b))) 2 1 ≡ need = ap₂ {C = ℕ} (λ (x y : ℕ). cond (ltb x y) 2 1) (sym ej) (held-rows b) ∙ sym en in
-            ap (λ (x : ℕ). roomFor x to (b .pool .«dir_rows») (dirsIn b) (b .pool .counter)) k ∙ sym er
+            ap (λ (x : ℕ). roomFor x to (b .pool .chosen .«dir_rows») (dirsIn b) (b .pool .counter)) k ∙ sym er
 
         pub front-refused : (n ≡ 0 → ⊥) → stopped n ≡ frontM from to (view b)
         unfolding frontM view
@@ -132,7 +134,7 @@ module _ (g : Geometry) (l : Lent) (R : Ready g l) (i : ℕ) (plan to : List ℕ
       rw f (ap₂ lent put-is (ap (λ (y : Pool). bufs y (b .nums) (b .names) (b .dirs)) eq ∙ spend-flat (view b) b (sym (R .pool .canon))))
 
   pub rebind-stopped : (d .place .last ≡ 0 → ⊥) → (l₁ : List ℕ) → rowsOf l₁ (b .names) (b .pool .held) ≡ set (rowsIn b) i (resized len true row)
-      → Flat (b .pool .rows) (b .pool .held) l₁ (b .names) → lent d (bufs q l₁ (b .names) (b .dirs)) ≡ flatW (rebindM plan g i to (viewW l))
+      → Flat (b .pool .chosen .rows) (b .pool .held) l₁ (b .names) → lent d (bufs q l₁ (b .names) (b .dirs)) ≡ flatW (rebindM plan g i to (viewW l))
   unfolding rebindM flatW viewW view
   rebind-stopped ne l₁ r F =
       let f : fineM put ≡ false = sym (ap fineM put-is) ∙ ne-eqb (d .place .last) 0 ne in
@@ -154,7 +156,7 @@ module _ (plan : List ℕ) (g : Geometry) (j : ℕ) (l : Lent) where
 -- ---- settle
 
 module _ (g : Geometry) (l : Lent) (R : Ready g l) (i j : ℕ) (plan to : List ℕ) (m : j < l .bufs .pool .held → (In j (queueOf (l .bufs .pool)) → ⊥) × (l .bufs .pool .counter < 2 ^ 63))
-    (h : i < l .bufs .pool .held) (short : length to ≤ 480) (room : length (registered (dirsIn (l .bufs)) to) ≤ l .bufs .pool .«dir_rows»)
+    (h : i < l .bufs .pool .held) (short : length to ≤ 480) (room : length (registered (dirsIn (l .bufs)) to) ≤ l .bufs .pool .chosen .«dir_rows»)
     (e : Dev) (q : Pool) (l₁ n₁ : List ℕ) (v : lent e (bufs q l₁ n₁ (l .bufs .dirs)) ≡ flatW (vacatedM plan g j (viewW l))) where
   abbrev u : World
   u = vacatedM plan g j (viewW l)
@@ -185,14 +187,14 @@ module _ (g : Geometry) (l : Lent) (R : Ready g l) (i j : ℕ) (plan to : List �
   unfolding view
   dirs-same = ap (λ (x : State). x .dirs) state-is ∙ stay .dirs
 
-  cap-same : q .«dir_rows» ≡ l .bufs .pool .«dir_rows»
+  cap-same : q .chosen .«dir_rows» ≡ l .bufs .pool .chosen .«dir_rows»
   unfolding view
-  cap-same = ap (λ (x : State). x .dirCap) state-is ∙ stay .dirCap
+  cap-same = ap (λ (x : State). x .chosen .«dir_rows») state-is ∙ ap (λ (x : Chosen). x .«dir_rows») (stay .chosen)
 
-  pub row-ready : Flat (q .rows) (q .held) l₁ n₁ × (i < q .held) × (length to ≤ 480)
+  pub row-ready : Flat (q .chosen .rows) (q .held) l₁ n₁ × (i < q .held) × (length to ≤ 480)
   row-ready = (pool-rows b₁ (ready .1 .pool), omega (arith, held-same), short)
 
-  pub bind-ready : (IsPool b₁ × (i < q .held) × (length to ≤ 480)) × (length (registered (dirsOf (l .bufs .dirs) (q .dirs)) to) ≤ q .«dir_rows»)
+  pub bind-ready : (IsPool b₁ × (i < q .held) × (length to ≤ 480)) × (length (registered (dirsOf (l .bufs .dirs) (q .dirs)) to) ≤ q .chosen .«dir_rows»)
   bind-ready = ((ready .1 .pool, omega (arith, held-same), short), rw (dirs-same, cap-same) room)
 
   device-is : e ≡ u .dev
@@ -200,21 +202,23 @@ module _ (g : Geometry) (l : Lent) (R : Ready g l) (i j : ℕ) (plan to : List �
   device-is = ap (λ (x : Lent). x .dev) v
 
   module _ (generation len : ℕ) where
-    pub settle-stopped : (e .place .last ≡ 0 → ⊥) → (l₂ n₂ : List ℕ) → rowsOf l₂ n₂ (q .held) ≡ set (rowsOf l₁ n₁ (q .held)) i (bound to generation len false)
-        → Flat (q .rows) (q .held) l₂ n₂ → outcome (e .place .last) tt (lent e (bufs q l₂ n₂ (l .bufs .dirs))) ≡ flatO (settledM plan g i j to generation len (viewW l))
+    pub settle-stopped : (e .place .last ≡ 0 → ⊥) → (l₂ n₂ : List ℕ)
+        → rowsOf l₂ n₂ (q .held) ≡ set (rowsOf l₁ n₁ (q .held)) i (bound to (file generation len false))
+        → Flat (q .chosen .rows) (q .held) l₂ n₂
+        → outcome (e .place .last) tt (lent e (bufs q l₂ n₂ (l .bufs .dirs))) ≡ flatO (settledM plan g i j to generation len (viewW l))
     unfolding settledM flatO flatW
     settle-stopped ne l₂ n₂ r F =
         let f : fineM (u .dev) ≡ false = sym (ap fineM device-is) ∙ ne-eqb (e .place .last) 0 ne in
-        let t = bound to generation len false in
+        let t = bound to (file generation len false) in
         let c = row-flat b₁ (ready .1 .pool) i t l₂ n₂ r F ∙ ap (λ (s : State). flat (withRow i t s)) state-is in
         rw f (ap₂ (λ (x : Dev) (y : Bufs). outcome (x .place .last) tt (lent x y)) device-is c)
 
-    pub settle-done : e .place .last ≡ 0 → (x : Bufs) → x ≡ flat (binds i to generation len false (view b₁))
+    pub settle-done : e .place .last ≡ 0 → (x : Bufs) → x ≡ flat (binds i to (file generation len false) (view b₁))
         → outcome 0 tt (lent e x) ≡ flatO (settledM plan g i j to generation len (viewW l))
     unfolding settledM flatO flatW binds
     settle-done z x k =
         let f : fineM (u .dev) ≡ true = sym (ap fineM device-is) ∙ eq-eqb (e .place .last) 0 z in
-        let t = bound to generation len false in
+        let t = bound to (file generation len false) in
         let c = k ∙ ap (λ (s : State). flat (registers to (withRow i t s))) state-is in
         rw f (ap (λ (n : ℕ). outcome n tt (lent e x)) (sym z) ∙ ap₂ (λ (y : Dev) (w : Bufs). outcome (y .place .last) tt (lent y w)) device-is c)
 
@@ -258,7 +262,7 @@ module _ (g : Geometry) (l : Lent) (R : Ready g l) (plan from to : List ℕ) (f 
     unfolding viewW view
     bound-there = subst (λ (k : ℕ). isBound (at (rowsIn (l .bufs)) k) ≡ true) (sym from-is) (from-bound plan g from to (viewW l) fit F goes-world)
 
-    made : length (registered (dirsIn (l .bufs)) to) ≤ l .bufs .pool .«dir_rows»
+    made : length (registered (dirsIn (l .bufs)) to) ≤ l .bufs .pool .chosen .«dir_rows»
     unfolding viewW view
     made = room plan g from to (viewW l) fit F goes-world .0
 
@@ -311,11 +315,11 @@ module _ (g : Geometry) (l : Lent) (R : Ready g l) (plan from to : List ℕ) (f 
           m (omega (arith, held-rows b₂))
 
       pub settle-ready : Ready g (lent e b₂) × ((f .to < q .held → (In (f .to) (queueOf q) → ⊥) × (q .counter < 2 ^ 63))
-          × ((f .from < q .held) × (length to ≤ 480) × (length (registered (dirsOf (l .bufs .dirs) (q .dirs)) to) ≤ q .«dir_rows»)))
+          × ((f .from < q .held) × (length to ≤ 480) × (length (registered (dirsOf (l .bufs .dirs) (q .dirs)) to) ≤ q .chosen .«dir_rows»)))
       unfolding view
       settle-ready =
           let d : dirsOf (l .bufs .dirs) (q .dirs) ≡ dirsIn (l .bufs) = after .dirs in
-          let p : q .«dir_rows» ≡ l .bufs .pool .«dir_rows» = after .dirCap in
+          let p : q .chosen .«dir_rows» ≡ l .bufs .pool .chosen .«dir_rows» = ap (λ (x : Chosen). x .«dir_rows») (after .chosen) in
           (ready₂ .1, (to-goes, (omega (arith, from-held, held-after), goes .short, rw (d, p) made)))
 
       pub rename-done : e .place .last ≡ 0 → (len : ℕ) → len ≡ lenOf (at (rowsIn (l .bufs)) (f .from)) → (x : Outcome None Lent)

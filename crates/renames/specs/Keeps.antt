@@ -13,14 +13,15 @@ use Rattle.text.specs.Text.{isText}
 use Rattle.path.specs.Path.{samePath}
 use Rattle.path.specs.Theorems.{same-path}
 use Rattle.device.specs.declared.Geometry.{Geometry}
-use Rattle.rows.specs.Rows.{bound, at, isBound, pathOf, lenOf, holds, find}
+use Rattle.rows.specs.Rows.{file, bound, at, isBound, pathOf, lenOf, holds, find}
 use Rattle.rows.specs.Find.{find-holds, holds-bound, holds-path}
 use Rattle.dirs.specs.Dirs.{registered}
+use Rattle.table.specs.declared.Chosen.{Chosen}
 use Rattle.table.specs.State.{State, Valid}
+use Rattle.table.specs.Changes.{withRow, withDirs, with-row-valid}
 use Rattle.steps.specs.World.{World, world, Fit}
-use Rattle.steps.specs.Steps.{fineM, withRow}
-use Rattle.steps.specs.Laws.{with-row-valid}
-use Rattle.handles.specs.Outcome.{outcome, came}
+use Rattle.steps.specs.Steps.{fineM}
+use Rattle.steps.specs.Outcome.{outcome, came}
 use Rattle.files.specs.Files.{isFile, roomFor, registers}
 use Rattle.files.specs.Laws.{registers-valid, bound-admitted, room-made}
 use Rattle.renames.specs.declared.Course.{Course}
@@ -36,16 +37,25 @@ pub record Goes (from to : List ℕ) (s : State) (f : Course) : Type 0 where
   pub source : f .from ≡ find from (s .rows)
   pub target : f .to ≡ find to (s .rows)
   pub held : find from (s .rows) < length (s .rows)
-  pub room : roomFor (needs to s) to (s .dirCap) (s .dirs) (s .counter) ≡ 0
+  pub room : roomFor (needs to s) to (s .chosen .«dir_rows») (s .dirs) (s .counter) ≡ 0
 
 pub front-means : (from to : List ℕ) (s : State) → frontM from to s .go ≡ true → Goes from to s (frontM from to s)
 unfolding frontM
-front-means from to s t =
-    first (ltb 480 (length to)) (samePath from to) (ltb (find from (s .rows)) (length (s .rows))) (eqb (roomFor (needs to s) to (s .dirCap) (s .dirs) (s .counter)) 0) refl refl refl refl t
+front-means from to s t = first (ltb 480 (length to)) (samePath from to) (ltb i (length (s .rows))) (eqb no 0) refl refl refl refl t
   where
-    first : (a b c d : Bool) → ltb 480 (length to) ≡ a → samePath from to ≡ b → ltb (find from (s .rows)) (length (s .rows)) ≡ c → eqb (roomFor (needs to s) to (s .dirCap) (s .dirs) (s .counter)) 0 ≡ d
-        → cond a (stopped 4) (cond b (stopped (cond c 0 5)) (cond c (cond d (record { out = 0; go = true; from = find from (s .rows); to = find to (s .rows) }) (stopped (roomFor (needs to s) to (s .dirCap) (s .dirs) (s .counter)))) (stopped 5))) .go ≡ true
-        → Goes from to s (cond a (stopped 4) (cond b (stopped (cond c 0 5)) (cond c (cond d (record { out = 0; go = true; from = find from (s .rows); to = find to (s .rows) }) (stopped (roomFor (needs to s) to (s .dirCap) (s .dirs) (s .counter)))) (stopped 5))))
+    i : ℕ
+    i = find from (s .rows)
+
+    no : ℕ
+    no = roomFor (needs to s) to (s .chosen .«dir_rows») (s .dirs) (s .counter)
+
+    ends : Bool → Bool → Bool → Bool → Course
+    ends a b c d =
+        cond a (stopped 4)
+        (cond b (stopped (cond c 0 5)) (cond c (cond d (record { out = 0; go = true; from = i; to = find to (s .rows) }) (stopped no)) (stopped 5)))
+
+    first : (a b c d : Bool) → ltb 480 (length to) ≡ a → samePath from to ≡ b → ltb i (length (s .rows)) ≡ c → eqb no 0 ≡ d
+        → ends a b c d .go ≡ true → Goes from to s (ends a b c d)
     first true b c d x q y z o = absurd (false≢true o)
     first false true c d x q y z o = absurd (false≢true o)
     first false false true true x q y z o =
@@ -54,8 +64,8 @@ front-means from to s t =
           differ = q;
           source = refl;
           target = refl;
-          held = ltb-true (find from (s .rows)) (length (s .rows)) y;
-          room = eqb-true (roomFor (needs to s) to (s .dirCap) (s .dirs) (s .counter)) 0 z;
+          held = ltb-true i (length (s .rows)) y;
+          room = eqb-true no 0 z;
         }
     first false false true false x q y z o = absurd (false≢true o)
     first false false false d x q y z o = absurd (false≢true o)
@@ -73,8 +83,8 @@ module _ (plan : List ℕ) (g : Geometry) (from to : List ℕ) (w : World) (f : 
   from-bound =
       subst (λ (k : ℕ). isBound (at (s .rows) k) ≡ true) (sym (G .source)) (holds-bound from (at (s .rows) (find from (s .rows))) (find-holds from (s .rows) (G .held)))
 
-  pub room : (length (registered (s .dirs) to) ≤ s .dirCap) × (s .counter + needs to s ≤ 2 ^ 63)
-  room = room-made (needs to s) to (s .dirCap) (s .dirs) (s .counter) (G .room)
+  pub room : (length (registered (s .dirs) to) ≤ s .chosen .«dir_rows») × (s .counter + needs to s ≤ 2 ^ 63)
+  room = room-made (needs to s) to (s .chosen .«dir_rows») (s .dirs) (s .counter) (G .room)
 
   some : (x : Bool) → 1 ≤ cond x 2 1
   some true = omega arith
@@ -100,7 +110,8 @@ module _ (plan : List ℕ) (g : Geometry) (from to : List ℕ) (w : World) (f : 
       let k : j < length (s .rows) = omega (arith, G .target, after .rows) in
       let n : s .counter + 2 ≤ 2 ^ 63 = subst (λ (x : Bool). s .counter + cond x 2 1 ≤ 2 ^ 63) (lt-ltb j (length (s .rows)) k) (room .1) in
       let o : isBound (at (s .rows) j) ≡ true = holds-bound to (at (s .rows) j) (find-holds to (s .rows) k) in (
-        λ m. false≢true (sym (f .valid .idle j (subst (λ (x : ℕ). In x (s .queue)) (G .target) (subst (λ (q : List ℕ). In (c .to) q) (after .queue) m))) ∙ o),
+        λ m. false≢true
+            (sym (f .valid .waiting .idle j (subst (λ (x : ℕ). In x (s .queue)) (G .target) (subst (λ (q : List ℕ). In (c .to) q) (after .queue) m))) ∙ o),
         omega (arith, after .counter, n),
       )
 
@@ -134,7 +145,7 @@ module _ (plan : List ℕ) (g : Geometry) (from to : List ℕ) (w : World) (f : 
       let h : i < length (v .state .rows) = omega (arith, after .rows, after .find from, G .held) in
       let b : isBound (at (v .state .rows) (c .from)) ≡ true =
       subst (λ (k : ℕ). isBound (at (v .state .rows) k) ≡ true) (sym e) (holds-bound from (at (v .state .rows) i) (find-holds from (v .state .rows) h)) in
-      false≢true (sym (u-fit .valid .idle (c .from) m) ∙ ap isBound (vacated-other plan g (c .to) v (c .from) two-slots) ∙ b)
+      false≢true (sym (u-fit .valid .waiting .idle (c .from) m) ∙ ap isBound (vacated-other plan g (c .to) v (c .from) two-slots) ∙ b)
 
   -- no row holds `to` any more
   free : (k : ℕ) → holds to (at (u .state .rows) k) ≡ false
@@ -143,22 +154,26 @@ module _ (plan : List ℕ) (g : Geometry) (from to : List ℕ) (w : World) (f : 
 
   module _ (t : isText to ≡ true) (len : ℕ) where
     abbrev bound-state : State
-    bound-state = withRow (c .from) (bound to (s .counter) len false) (u .state)
+    bound-state = withRow (c .from) (bound to (file (s .counter) len false)) (u .state)
 
     bound-valid : Valid bound-state
     bound-valid =
-        with-row-valid (u .state) (c .from) (bound to (s .counter) len false) (u-fit .valid) (omega (arith, from-held, after .rows, stay .rows))
-        (bound-admitted (u .state) (c .from) to (s .counter) len false t (G .short) (omega (arith, after .counter, stay .counter)) (λ k ne. free k) busy)
+        let x = file (s .counter) len false in
+        with-row-valid (u .state) (c .from) (bound to x) (u-fit .valid) (omega (arith, from-held, after .rows, stay .rows))
+        (bound-admitted (u .state) (c .from) to x t (G .short) (omega (arith, after .counter, stay .counter)) (λ k ne. free k) busy)
 
     pub settled-fit : Fit g (settledM plan g (c .from) (c .to) to (s .counter) len v .left)
-    unfolding settledM withRow registers
+    unfolding settledM withRow withDirs registers
     settled-fit = go (fineM (u .dev))
       where
         slots : length (bound-state .rows) ≤ length (u .dev .phys)
-        slots = omega (arith, u-fit .slots, length-set (u .state .rows) (c .from) (bound to (s .counter) len false))
+        slots = omega (arith, u-fit .slots, length-set (u .state .rows) (c .from) (bound to (file (s .counter) len false)))
 
-        fits : length (registered (bound-state .dirs) to) ≤ bound-state .dirCap
-        fits = omega (arith, ap (λ (ds : List (List ℕ)). length (registered ds to)) (stay .dirs ∙ after .dirs), stay .dirCap, after .dirCap, room .0)
+        fits : length (registered (bound-state .dirs) to) ≤ bound-state .chosen .«dir_rows»
+        fits =
+            let n = ap (λ (ds : List (List ℕ)). length (registered ds to)) (stay .dirs ∙ after .dirs) in
+            let m = ap (λ (x : Chosen). x .«dir_rows») (stay .chosen ∙ after .chosen) in
+            omega (arith, n, m, room .0)
 
         go : (x : Bool) → Fit g (world (u .dev) (cond x (registers to bound-state) bound-state))
         go true = record { valid = registers-valid bound-state to bound-valid (G .short) fits; shape = u-fit .shape; slots = slots }

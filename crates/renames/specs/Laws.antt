@@ -18,9 +18,10 @@ use Rattle.rows.specs.Find.{find-holds, find-none, find-resized, holds-bound, h
 use Rattle.table.specs.State.{State, Valid}
 use Rattle.table.specs.Queue.{spent}
 use Rattle.table.specs.Laws.{spent-valid}
+use Rattle.table.specs.Changes.{withRow, with-row-valid, resized-admitted}
 use Rattle.steps.specs.World.{World, world, Fit}
-use Rattle.steps.specs.Steps.{fineM, putM, withRow, releaseM}
-use Rattle.steps.specs.Laws.{put-kept, with-row-valid, resized-admitted, release-is, release-row, release-other, release-fit}
+use Rattle.steps.specs.Steps.{fineM, putM, releaseM}
+use Rattle.steps.specs.Laws.{put-kept, release-is, release-row, release-other, release-fit}
 use Rattle.renames.specs.Rename.{rebindM, vacatedM}
 
 -- A held slot that gives way is not free, and a generation is left for it.
@@ -59,7 +60,7 @@ module _ (plan : List ℕ) (g : Geometry) (w : World) (f : Fit g w) where
 pub record Stays (s t : State) : Type 0 where
   pub rows : length (t .rows) ≡ length (s .rows)
   pub dirs : t .dirs ≡ s .dirs
-  pub dirCap : t .dirCap ≡ s .dirCap
+  pub chosen : t .chosen ≡ s .chosen
   pub counter : s .counter ≤ t .counter
 
 pub vacated-stays : (plan : List ℕ) (g : Geometry) (j : ℕ) (w : World) → Stays (w .state) (vacatedM plan g j w .state)
@@ -72,10 +73,10 @@ vacated-stays plan g j w = go (ltb j (length (w .state .rows)))
         record {
           rows = ap (λ (x : State). length (x .rows)) e ∙ length-set (w .state .rows) j (unbound (w .state .counter));
           dirs = ap (λ (x : State). x .dirs) e;
-          dirCap = ap (λ (x : State). x .dirCap) e;
+          chosen = ap (λ (x : State). x .chosen) e;
           counter = omega (arith, ap (λ (x : State). x .counter) e);
         }
-    go false = record { rows = refl; dirs = refl; dirCap = refl; counter = omega arith }
+    go false = record { rows = refl; dirs = refl; chosen = refl; counter = omega arith }
 
 -- Every other row stays,
 pub vacated-other : (plan : List ℕ) (g : Geometry) (j : ℕ) (w : World) (k : ℕ) → k ≢ j → at (vacatedM plan g j w .state .rows) k ≡ at (w .state .rows) k
@@ -102,7 +103,7 @@ vacated-none plan g path w ok k = go (ltb j (length (w .state .rows))) refl
         let b = holds-bound path (at (w .state .rows) j) f in
         let c = same-path (pathOf (at (w .state .rows) k)) path .0 (sym (holds-path path (at (w .state .rows) k) a) ∙ e) in
         let d = same-path (pathOf (at (w .state .rows) j)) path .0 (sym (holds-path path (at (w .state .rows) j) b) ∙ f) in
-        absurd (ne (ok .apart k j a b (c ∙ sym d)))
+        absurd (ne (ok .slots .apart k j a b (c ∙ sym d)))
     only h ne false e = refl
 
     gone : j < length (w .state .rows) → Dec (k ≡ j) → holds path (at (releaseM plan g j w .state .rows) k) ≡ false
@@ -117,7 +118,7 @@ vacated-none plan g path w ok k = go (ltb j (length (w .state .rows))) refl
 pub record Rebound (s t : State) : Type 0 where
   pub rows : length (t .rows) ≡ length (s .rows)
   pub dirs : t .dirs ≡ s .dirs
-  pub dirCap : t .dirCap ≡ s .dirCap
+  pub chosen : t .chosen ≡ s .chosen
   pub queue : t .queue ≡ s .queue
   pub counter : t .counter ≡ s .counter + 1
   pub find : (path : List ℕ) → find path (t .rows) ≡ find path (s .rows)
@@ -127,12 +128,12 @@ unfolding rebindM spent withRow
 rebound plan g i to w = go (fineM (putM plan g i (encoded (boundHeader (length to) (lenOf (at (w .state .rows) i)) (w .state .counter)) to) (w .dev)))
   where
     go : (t : Bool) → Rebound (w .state) (spent (cond t (w .state) (withRow i (resized (lenOf (at (w .state .rows) i)) true (at (w .state .rows) i)) (w .state))))
-    go true = record { rows = refl; dirs = refl; dirCap = refl; queue = refl; counter = refl; find = λ path. refl }
+    go true = record { rows = refl; dirs = refl; chosen = refl; queue = refl; counter = refl; find = λ path. refl }
     go false =
         record {
           rows = length-set (w .state .rows) i (resized (lenOf (at (w .state .rows) i)) true (at (w .state .rows) i));
           dirs = refl;
-          dirCap = refl;
+          chosen = refl;
           queue = refl;
           counter = refl;
           find = λ path. find-resized path (w .state .rows) i (lenOf (at (w .state .rows) i)) true;

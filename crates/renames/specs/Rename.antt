@@ -7,12 +7,13 @@ use lib.ListN.{length}
 use Rattle.path.specs.Path.{samePath}
 use Rattle.header.specs.Block.{boundHeader, encoded}
 use Rattle.device.specs.declared.Geometry.{Geometry}
-use Rattle.rows.specs.Rows.{Row, bound, at, lenOf, resized, find}
+use Rattle.rows.specs.Rows.{file, bound, at, lenOf, resized, find}
 use Rattle.table.specs.State.{State}
 use Rattle.table.specs.Queue.{spent}
+use Rattle.table.specs.Changes.{withRow}
 use Rattle.steps.specs.World.{World, world}
-use Rattle.steps.specs.Steps.{fineM, putM, withRow, releaseM}
-use Rattle.handles.specs.Outcome.{Outcome, outcome, None, came}
+use Rattle.steps.specs.Steps.{fineM, putM, releaseM}
+use Rattle.steps.specs.Outcome.{Outcome, outcome, None, came}
 use Rattle.files.specs.Files.{isFile, room, registers}
 use Rattle.renames.specs.declared.Course.{Course}
 
@@ -51,7 +52,7 @@ vacatedM plan g j w = cond (ltb j (length (w .state .rows))) (releaseM plan g j 
 unfoldable pub settledM : List ℕ → Geometry → ℕ → ℕ → List ℕ → ℕ → ℕ → World → Outcome None World
 settledM plan g i j to generation len w =
     let u = vacatedM plan g j w in
-    let s = withRow i (bound to generation len false) (u .state) in
+    let s = withRow i (bound to (file generation len false)) (u .state) in
     came (world (u .dev) (cond (fineM (u .dev)) (registers to s) s))
 
 unfoldable pub renamedM : List ℕ → Geometry → ℕ → ℕ → List ℕ → World → Outcome None World

@@ -18,9 +18,9 @@ ghost use Rattle.device.specs.Device.{dev};
 ghost use Rattle.dirs.specs.Dirs.{registered};
 ghost use Rattle.dirs.specs.Rows.{dirsOf};
 ghost use Rattle.rows.specs.Rows.{at, isBound, rowsOf};
-ghost use Rattle.table.specs.State.{bufs, view, queueOf, IsPool};
-ghost use Rattle.steps.specs.World.{lent, viewW, flatW, Ready};
-ghost use Rattle.handles.specs.Outcome.{outcome, flatO};
+ghost use Rattle.table.specs.State.{bufs, bufsBefore, view, queueOf, IsPool};
+ghost use Rattle.steps.specs.World.{lent, viewW, flatW, Ready, before, after};
+ghost use Rattle.steps.specs.Outcome.{outcome, flatO};
 ghost use Rattle.renames.specs.Rename.{stopped, frontM, rebindM, vacatedM, settledM, renameM};
 
 // The longest path of a file.
@@ -56,12 +56,12 @@ fn needed(j: usize, n: usize) -> u64
 // What a rename comes to before the device.
 fn front(nums: &[u64], names: &[u8], dirs: &[u8], pool: Pool, from: &[u8], to: &[u8]) -> Course
     requires { ⌜ IsPool (bufs pool (now nums) (now names) (now dirs)) ⌝ }
-    ensures { λ r. ⌜ r ≡ frontM (now (from .entry)) (now (to .entry)) (view (bufs pool (now (nums .entry)) (now (names .entry)) (now (dirs .entry)))) ⌝ }
+    ensures { λ r. ⌜ r ≡ frontM (now (from .entry)) (now (to .entry)) (view (bufsBefore nums names dirs pool)) ⌝ }
 {
     if MAX_PATH < to.len() {
         return stop(4);
     }
-    let cap = pool.rows;
+    let cap = pool.chosen.rows;
     let n = pool.held;
     let i = rows::find_row(nums, names, cap, n, from);
     if path::same_path(from, to) {
@@ -103,15 +103,21 @@ fn rebind(
     to: &[u8],
 ) -> Stepped
     requires { ⌜ Ready geometry (lent (dev (now bytes) (now phys) place) (bufs pool (now nums) (now names) (now dirs))) ⌝ }
-    requires { ⌜ (i < pool .held) × (isBound (at (rowsOf (now nums) (now names) (pool .held)) i) ≡ true) × (pool .counter < 2 ^ 63) × (length (now to) ≤ 480) ⌝ }
-    ensures { λ r. ⌜ lent (dev (now (bytes .exit)) (now (phys .exit)) (r .place)) (bufs (r .pool) (now (nums .exit)) (now (names .entry)) (now (dirs .entry))) ≡ flatW (rebindM (now (plan .entry)) geometry i (now (to .entry)) (viewW (lent (dev (now (bytes .entry)) (now (phys .entry)) place) (bufs pool (now (nums .entry)) (now (names .entry)) (now (dirs .entry)))))) ⌝ }
+    requires { ⌜
+        (i < pool .held)
+        × (isBound (at (rowsOf (now nums) (now names) (pool .held)) i) ≡ true)
+        × (pool .counter < 2 ^ 63)
+        × (length (now to) ≤ 480) ⌝ }
+    ensures { λ r. ⌜
+        after bytes phys (r .place) nums names dirs (r .pool)
+        ≡ flatW (rebindM (now (plan .entry)) geometry i (now (to .entry)) (viewW (before bytes phys place nums names dirs pool))) ⌝ }
 {
-    let cap = pool.rows;
+    let cap = pool.chosen.rows;
     let n = pool.held;
     let generation = pool.counter;
     let len = rows::row_len(nums, names, cap, n, i);
     let header = Header::bound(to.len(), len, generation);
-    let put = steps::put_header(bytes, phys, geometry, plan, place, i, header, to);
+    let put = places::put_header(bytes, phys, geometry, plan, place, i, header, to);
     let spent = table::next_generation(pool);
     let last = put.last;
     if last == 0 {
@@ -142,7 +148,9 @@ fn vacate(
 ) -> Stepped
     requires { ⌜ Ready geometry (lent (dev (now bytes) (now phys) place) (bufs pool (now nums) (now names) (now dirs))) ⌝ }
     requires { ⌜ (j < pool .held → (In j (queueOf pool) → ⊥) × (pool .counter < 2 ^ 63)) ⌝ }
-    ensures { λ r. ⌜ lent (dev (now (bytes .exit)) (now (phys .exit)) (r .place)) (bufs (r .pool) (now (nums .exit)) (now (names .exit)) (now (dirs .entry))) ≡ flatW (vacatedM (now (plan .entry)) geometry j (viewW (lent (dev (now (bytes .entry)) (now (phys .entry)) place) (bufs pool (now (nums .entry)) (now (names .entry)) (now (dirs .entry)))))) ⌝ }
+    ensures { λ r. ⌜
+        after bytes phys (r .place) nums names dirs (r .pool)
+        ≡ flatW (vacatedM (now (plan .entry)) geometry j (viewW (before bytes phys place nums names dirs pool))) ⌝ }
 {
     let n = pool.held;
     if n <= j {
@@ -184,8 +192,14 @@ fn settle(
 ) -> Done
     requires { ⌜ Ready geometry (lent (dev (now bytes) (now phys) place) (bufs pool (now nums) (now names) (now dirs))) ⌝ }
     requires { ⌜ (j < pool .held → (In j (queueOf pool) → ⊥) × (pool .counter < 2 ^ 63)) ⌝ }
-    requires { ⌜ (i < pool .held) × (length (now to) ≤ 480) × (length (registered (dirsOf (now dirs) (pool .dirs)) (now to)) ≤ pool .«dir_rows») ⌝ }
-    ensures { λ r. ⌜ outcome (r .out) tt (lent (dev (now (bytes .exit)) (now (phys .exit)) (r .place)) (bufs (r .pool) (now (nums .exit)) (now (names .exit)) (now (dirs .exit)))) ≡ flatO (settledM (now (plan .entry)) geometry i j (now (to .entry)) generation len (viewW (lent (dev (now (bytes .entry)) (now (phys .entry)) place) (bufs pool (now (nums .entry)) (now (names .entry)) (now (dirs .entry)))))) ⌝ }
+    requires { ⌜
+        (i < pool .held)
+        × (length (now to) ≤ 480)
+        × (length (registered (dirsOf (now dirs) (pool .dirs)) (now to)) ≤ pool .chosen .«dir_rows») ⌝ }
+    ensures { λ r. ⌜
+        outcome (r .out) tt (after bytes phys (r .place) nums names dirs (r .pool))
+        ≡ flatO (settledM (now (plan .entry)) geometry i j (now (to .entry)) generation len
+        (viewW (before bytes phys place nums names dirs pool))) ⌝ }
 {
     let freed = vacate(
         bytes,
@@ -201,7 +215,7 @@ fn settle(
     );
     let after = freed.place;
     let kept = freed.pool;
-    let cap = kept.rows;
+    let cap = kept.chosen.rows;
     let n = kept.held;
     let last = after.last;
     if last != 0 {
@@ -235,7 +249,10 @@ pub fn rename(
     to: &[u8],
 ) -> Done
     requires { ⌜ Ready geometry (lent (dev (now bytes) (now phys) place) (bufs pool (now nums) (now names) (now dirs))) ⌝ }
-    ensures { λ r. ⌜ outcome (r .out) tt (lent (dev (now (bytes .exit)) (now (phys .exit)) (r .place)) (bufs (r .pool) (now (nums .exit)) (now (names .exit)) (now (dirs .exit)))) ≡ flatO (renameM (now (plan .entry)) geometry (now (from .entry)) (now (to .entry)) (viewW (lent (dev (now (bytes .entry)) (now (phys .entry)) place) (bufs pool (now (nums .entry)) (now (names .entry)) (now (dirs .entry)))))) ⌝ }
+    ensures { λ r. ⌜
+        outcome (r .out) tt (after bytes phys (r .place) nums names dirs (r .pool))
+        ≡ flatO (renameM (now (plan .entry)) geometry (now (from .entry)) (now (to .entry))
+        (viewW (before bytes phys place nums names dirs pool))) ⌝ }
 {
     let f = front(nums, names, dirs, pool, from, to);
     let no = f.out;
@@ -249,7 +266,7 @@ pub fn rename(
     }
     let i = f.from;
     let j = f.to;
-    let cap = pool.rows;
+    let cap = pool.chosen.rows;
     let n = pool.held;
     let generation = pool.counter;
     let len = rows::row_len(nums, names, cap, n, i);

@@ -1,6 +1,6 @@
 // Replays recorded scripts, with no Rust at hand: standard input is a run of entries, each a script and the output that was recorded for it
-// (u32 length and bytes, twice, little-endian). Runs each script by `script::pool_script`, says which outputs differ, and at the end how many
-// scripts there were. What it prints can't be said in a contract, and is compared with the file stdout.
+// (u32 length and bytes, twice, little-endian). Runs each script by `script::pool_script`, says which outputs differ, and at the end how
+// many scripts there were. What it prints can't be said in a contract, and is compared with the file stdout.
 use libc::STDIN_FILENO;
 use libc::STDOUT_FILENO;
 

@@ -7,46 +7,51 @@ use native.Mathlib.Omega.{arith}
 use lib.Dec.{eqb}
 use lib.ListN.{length, getD, set, take, drop, replicate}
 use lib.Seq.{sets, set-getD, getD-set-other}
-use Rattle.path.specs.Path.{samePath, keyOf}
-use Rattle.path.specs.Theorems.{key-same}
+use Rattle.path.specs.Path.{samePath}
 use Rattle.lists.specs.Blocks.{pad, sets-four}
-use Rattle.rows.specs.Rows.{Row, unbound, bound, at, isBound, pathOf, genOf, lenOf, isDirty, resized, holds, markOf, rowNums, rowName, rowsOf, Flat}
+use Rattle.rows.specs.Rows.{Row, file, unbound, bound, at, isBound, pathOf, genOf, lenOf, isDirty, refiled, resized, holds, markOf, rowNums, rowName, rowsOf, Flat}
 use Rattle.rows.specs.Laws.{resized-path, num-at, name-part, row-kept, row-stored}
 use Rattle.rows.specs.Find.{holds-path}
 
 pub mark-bound : (r : Row) → not (eqb (getD (rowNums r) 0 0) 0) ≡ isBound r
 unfolding rowNums isBound markOf
 mark-bound (unbound g) = refl
-mark-bound (bound p g n true) = refl
-mark-bound (bound p g n false) = refl
+mark-bound (bound p f) = by-mark (f .dirty)
+  where
+    by-mark : (d : Bool) → not (eqb (markOf d) 0) ≡ true
+    by-mark true = refl
+    by-mark false = refl
 
 pub mark-dirty : (r : Row) → eqb (getD (rowNums r) 0 0) 2 ≡ isDirty r
 unfolding rowNums isDirty markOf
 mark-dirty (unbound g) = refl
-mark-dirty (bound p g n true) = refl
-mark-dirty (bound p g n false) = refl
+mark-dirty (bound p f) = by-mark (f .dirty)
+  where
+    by-mark : (d : Bool) → eqb (markOf d) 2 ≡ d
+    by-mark true = refl
+    by-mark false = refl
 
 pub num-path : (r : Row) → getD (rowNums r) 1 0 ≡ length (pathOf r)
 unfolding rowNums pathOf
 num-path (unbound g) = refl
-num-path (bound p g n d) = refl
+num-path (bound p f) = refl
 
 pub num-len : (r : Row) → getD (rowNums r) 2 0 ≡ lenOf r
 unfolding rowNums lenOf
 num-len (unbound g) = refl
-num-len (bound p g n d) = refl
+num-len (bound p f) = refl
 
 pub num-generation : (r : Row) → getD (rowNums r) 3 0 ≡ genOf r
 unfolding rowNums genOf
 num-generation (unbound g) = refl
-num-generation (bound p g n d) = refl
+num-generation (bound p f) = refl
 
 -- ---- two fields stored
 
 resized-nums : (m : ℕ) (e : Bool) (r : Row) → isBound r ≡ true → rowNums (resized m e r) ≡ markOf e ∷ getD (rowNums r) 1 0 ∷ m ∷ getD (rowNums r) 3 0 ∷ []
-unfolding rowNums resized isBound
+unfolding rowNums resized refiled isBound
 resized-nums m e (unbound g) h = absurd (false≢true h)
-resized-nums m e (bound p g n d) h = refl
+resized-nums m e (bound p f) h = refl
 
 -- the first and the third of four cells
 sets-two : (l : List ℕ) (k a c : ℕ) → set (set l k a) (k + 2) c ≡ sets l k (a ∷ getD l (k + 1) 0 ∷ c ∷ getD l (k + 3) 0 ∷ [])
@@ -71,19 +76,11 @@ module _ (cap n : ℕ) (l s : List ℕ) (F : Flat cap n l s) (i : ℕ) (h : i < 
 
   pub bound-stored : (p l₁ s₁ : List ℕ) (m g len : ℕ) (d : Bool) → length p ≤ 480 → m ≡ markOf d
       → l₁ ≡ sets l (i * 4) (m ∷ length p ∷ len ∷ g ∷ []) → s₁ ≡ sets s (i * 480) (pad 480 p)
-      → (rowsOf l₁ s₁ n ≡ set (rowsOf l s n) i (bound p g len d)) × Flat cap n l₁ s₁
+      → (rowsOf l₁ s₁ n ≡ set (rowsOf l s n) i (bound p (file g len d))) × Flat cap n l₁ s₁
   unfolding rowNums rowName pathOf
-  bound-stored p l₁ s₁ m g len d k e a b = row-stored cap n l s F i h (bound p g len d) l₁ s₁ k (rw e at a) b
+  bound-stored p l₁ s₁ m g len d k e a b = row-stored cap n l s F i h (bound p (file g len d)) l₁ s₁ k (rw e at a) b
 
   pub unbound-stored : (l₁ s₁ : List ℕ) (g : ℕ) → l₁ ≡ sets l (i * 4) (0 ∷ 0 ∷ 0 ∷ g ∷ []) → s₁ ≡ sets s (i * 480) (replicate 480 0)
       → (rowsOf l₁ s₁ n ≡ set (rowsOf l s n) i (unbound g)) × Flat cap n l₁ s₁
   unfolding rowNums rowName pathOf pad
   unbound-stored l₁ s₁ g a b = row-stored cap n l s F i h (unbound g) l₁ s₁ (omega arith) a b
-
--- paths with two keys differ
-pub key-other : (a b : List ℕ) → (keyOf a ≡ keyOf b → ⊥) → false ≡ samePath a b
-key-other a b h = go (samePath a b) refl
-  where
-    go : (t : Bool) → samePath a b ≡ t → false ≡ t
-    go true e = absurd (h (key-same a b e))
-    go false e = refl

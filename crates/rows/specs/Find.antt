@@ -16,25 +16,25 @@ use Rattle.rows.specs.Rows.{Row, unbound, bound, none, at, isBound, path
 pub holds-bound : (p : List ℕ) (r : Row) → holds p r ≡ true → isBound r ≡ true
 unfolding holds isBound
 holds-bound p (unbound g) h = h
-holds-bound p (bound q g n d) h = refl
+holds-bound p (bound q f) h = refl
 
 -- no path is held by a row that is not bound
 pub holds-unbound : (p : List ℕ) (r : Row) → isBound r ≡ false → holds p r ≡ false
 unfolding holds isBound
 holds-unbound p (unbound g) h = refl
-holds-unbound p (bound q g n d) h = absurd (false≢true (sym h))
+holds-unbound p (bound q f) h = absurd (false≢true (sym h))
 
 -- a row holds the paths equal to its own
 pub holds-path : (p : List ℕ) (r : Row) → isBound r ≡ true → holds p r ≡ samePath (pathOf r) p
 unfolding holds isBound pathOf
 holds-path p (unbound g) h = absurd (false≢true h)
-holds-path p (bound q g n d) h = refl
+holds-path p (bound q f) h = refl
 
 -- equal paths are held alike, and found in the same row
 pub holds-same : (p q : List ℕ) (r : Row) → samePath p q ≡ true → holds p r ≡ holds q r
 unfolding holds
 holds-same p q (unbound g) e = refl
-holds-same p q (bound t g n d) e = same-path-of t p t q refl (same-path p q .0 e)
+holds-same p q (bound t f) e = same-path-of t p t q refl (same-path p q .0 e)
 
 pub find-same : (p q : List ℕ) (rs : List Row) → samePath p q ≡ true → find p rs ≡ find q rs
 unfolding find
@@ -138,7 +138,7 @@ find-set-kept p (x ∷ rs) (suc i) r h = rw (find-set-kept p rs i r h)
 holds-resized : (p : List ℕ) (m : ℕ) (e : Bool) (r : Row) → holds p (resized m e r) ≡ holds p r
 unfolding holds resized
 holds-resized p m e (unbound g) = refl
-holds-resized p m e (bound q g n d) = refl
+holds-resized p m e (bound q f) = refl
 
 -- a row with another length or dirty bit
 pub find-resized : (p : List ℕ) (rs : List Row) (i m : ℕ) (e : Bool) → find p (set rs i (resized m e (at rs i))) ≡ find p rs

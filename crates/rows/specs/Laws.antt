@@ -8,15 +8,15 @@ use native.Mathlib.Omega.{arith}
 use lib.ListN.{length, getD, set, take, drop, replicate, length-set, length-append, length-replicate}
 use lib.Seq.{sets, take-append-le, take-nil, drop-at, set-getD}
 use Rattle.lists.specs.Blocks.{pad, cat, length-pad, take-pad, pad-fits, length-cat, flat-set, flat-at, flat-part}
-use Rattle.rows.specs.Zeros.{flat-more}
-use Rattle.rows.specs.Rows.{Row, unbound, bound, none, at, isBound, pathOf, genOf, resized, markOf, rowNums, rowName, flatNums, flatNames, rowFrom, rowsOf, Short, Flat}
+use Rattle.lists.specs.Zeros.{flat-more}
+use Rattle.rows.specs.Rows.{Row, file, unbound, bound, none, at, isBound, pathOf, genOf, refiled, resized, markOf, rowNums, rowName, flatNums, flatNames, rowFrom, rowsOf, Short, Flat}
 
 -- ---- sizes
 
 pub nums-wide : (r : Row) → length (rowNums r) ≡ 4
 unfolding rowNums
 nums-wide (unbound g) = refl
-nums-wide (bound p g n d) = refl
+nums-wide (bound p f) = refl
 
 pub name-wide : (r : Row) → length (rowName r) ≡ 480
 unfolding rowName
@@ -32,17 +32,17 @@ length-rows l s (suc n) = ap suc (length-rows (drop 4 l) (drop 480 s) n)
 pub resized-bound : (m : ℕ) (e : Bool) (r : Row) → isBound (resized m e r) ≡ isBound r
 unfolding resized isBound
 resized-bound m e (unbound g) = refl
-resized-bound m e (bound p g n d) = refl
+resized-bound m e (bound p f) = refl
 
 pub resized-path : (m : ℕ) (e : Bool) (r : Row) → pathOf (resized m e r) ≡ pathOf r
 unfolding resized pathOf
 resized-path m e (unbound g) = refl
-resized-path m e (bound p g n d) = refl
+resized-path m e (bound p f) = refl
 
 pub resized-gen : (m : ℕ) (e : Bool) (r : Row) → genOf (resized m e r) ≡ genOf r
-unfolding resized genOf
+unfolding resized refiled genOf
 resized-gen m e (unbound g) = refl
-resized-gen m e (bound p g n d) = refl
+resized-gen m e (bound p f) = refl
 
 -- ---- the view of a flat form
 
@@ -50,8 +50,12 @@ row-back : (r : Row) (l s : List ℕ) → length (pathOf r) ≤ 480
     → rowFrom (getD (rowNums r ++ l) 0 0) (getD (rowNums r ++ l) 1 0) (getD (rowNums r ++ l) 2 0) (getD (rowNums r ++ l) 3 0) (rowName r ++ s) ≡ r
 unfolding rowFrom rowNums rowName pathOf markOf
 row-back (unbound g) l s h = refl
-row-back (bound p g n true) l s h = rw (take-append-le (length p) (pad 480 p) s (omega (arith, length-pad 480 p)), take-pad 480 p h)
-row-back (bound p g n false) l s h = rw (take-append-le (length p) (pad 480 p) s (omega (arith, length-pad 480 p)), take-pad 480 p h)
+row-back (bound p f) l s h = by-mark (f .dirty) refl
+  where
+    by-mark : (d : Bool) → f .dirty ≡ d
+        → rowFrom (markOf d) (length p) (f .len) (f .gen) (pad 480 p ++ s) ≡ bound p (file (f .gen) (f .len) d)
+    by-mark true e = rw (take-append-le (length p) (pad 480 p) s (omega (arith, length-pad 480 p)), take-pad 480 p h)
+    by-mark false e = rw (take-append-le (length p) (pad 480 p) s (omega (arith, length-pad 480 p)), take-pad 480 p h)
 
 rows-cat : (rs : List Row) (l s : List ℕ) → Short rs → rowsOf (cat rowNums rs ++ l) (cat rowName rs ++ s) (length rs) ≡ rs
 unfolding rowsOf cat

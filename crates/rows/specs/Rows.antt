@@ -10,10 +10,19 @@ use Rattle.path.specs.Path.{samePath}
 
 -- ---- a row
 
--- a slot is unbound under a generation, or bound: path, generation, file length, and whether its header is still to be written (dirty)
+-- what a bound slot says of its file: generation, length, and whether its header is still to be written (dirty)
+pub record File : Type 0 where
+  pub gen : ℕ
+  pub len : ℕ
+  pub dirty : Bool
+
+abbrev pub file : ℕ → ℕ → Bool → File
+file g n d = record { gen = g; len = n; dirty = d }
+
+-- a slot is unbound under a generation, or bound to a path, with a file
 pub data Row : Type 0 where
   unbound : ℕ → Row
-  bound : List ℕ → ℕ → ℕ → Bool → Row
+  bound : List ℕ → File → Row
 
 -- a row that there is not: its numbers and bytes are zero
 abbrev pub none : Row
@@ -25,28 +34,32 @@ at rs i = getD rs i none
 
 unfoldable pub isBound : Row → Bool
 isBound (unbound g) = false
-isBound (bound p g n d) = true
+isBound (bound p f) = true
 
 unfoldable pub pathOf : Row → List ℕ
 pathOf (unbound g) = []
-pathOf (bound p g n d) = p
+pathOf (bound p f) = p
 
 unfoldable pub genOf : Row → ℕ
 genOf (unbound g) = g
-genOf (bound p g n d) = g
+genOf (bound p f) = f .gen
 
 unfoldable pub lenOf : Row → ℕ
 lenOf (unbound g) = 0
-lenOf (bound p g n d) = n
+lenOf (bound p f) = f .len
 
 unfoldable pub isDirty : Row → Bool
 isDirty (unbound g) = false
-isDirty (bound p g n d) = d
+isDirty (bound p f) = f .dirty
+
+-- a file with another length and dirty bit
+unfoldable pub refiled : ℕ → Bool → File → File
+refiled m e f = file (f .gen) m e
 
 -- a bound row with another file length and dirty bit; an unbound one stays
 unfoldable pub resized : ℕ → Bool → Row → Row
 resized m e (unbound g) = unbound g
-resized m e (bound p g n d) = bound p g m e
+resized m e (bound p f) = bound p (refiled m e f)
 
 -- the row, clean
 unfoldable pub cleaned : Row → Row
@@ -57,7 +70,7 @@ cleaned r = resized (lenOf r) false r
 -- the row is bound to a path equal to p
 unfoldable pub holds : List ℕ → Row → Bool
 holds p (unbound g) = false
-holds p (bound q g n d) = samePath q p
+holds p (bound q f) = samePath q p
 
 -- the first row that holds p, or the count of the rows
 unfoldable pub find : List ℕ → List Row → ℕ
@@ -73,7 +86,7 @@ markOf d = cond d 2 1
 -- mark (0 unbound), path length, file length, generation
 unfoldable pub rowNums : Row → List ℕ
 rowNums (unbound g) = 0 ∷ 0 ∷ 0 ∷ g ∷ []
-rowNums (bound p g n d) = markOf d ∷ length p ∷ n ∷ g ∷ []
+rowNums (bound p f) = markOf (f .dirty) ∷ length p ∷ f .len ∷ f .gen ∷ []
 
 -- the path, zero filled
 unfoldable pub rowName : Row → List ℕ
@@ -88,7 +101,7 @@ flatNames cap rs = pad (cap * 480) (cat rowName rs)
 
 -- the row of mark m, path length k, file length n and generation g, whose name starts s
 unfoldable pub rowFrom : ℕ → ℕ → ℕ → ℕ → List ℕ → Row
-rowFrom m k n g s = cond (eqb m 0) (unbound g) (bound (take k s) g n (eqb m 2))
+rowFrom m k n g s = cond (eqb m 0) (unbound g) (bound (take k s) (file g n (eqb m 2)))
 
 -- the first n rows of the buffers
 unfoldable pub rowsOf : List ℕ → List ℕ → ℕ → List Row

@@ -9,7 +9,8 @@ ghost use lib.ListN.{length, getD, set, replicate};
 ghost use lib.Seq.{sets};
 ghost use Rattle.lists.specs.Blocks.{pad};
 ghost use Rattle.path.specs.Path.{samePath, keyOf};
-ghost use Rattle.rows.specs.Rows.{at, unbound, bound, isBound, pathOf, genOf, lenOf, isDirty, resized, cleaned, holds, find, markOf, rowNums, rowsOf, Flat};
+ghost use Rattle.rows.specs.Rows.{file, at, unbound, bound, isBound, pathOf, genOf, lenOf, isDirty, resized, cleaned, holds};
+ghost use Rattle.rows.specs.Rows.{find, markOf, rowNums, rowsOf, Flat};
 
 // ---- leaves: runs of cells
 
@@ -150,7 +151,9 @@ pub fn bind_row(
     dirty: bool,
 )
     requires { ⌜ Flat cap n (now nums) (now names) × (i < n) × (length (now p) ≤ 480) ⌝ }
-    ensures rows { λ _. ⌜ rowsOf (now (nums .exit)) (now (names .exit)) n ≡ set (rowsOf (now (nums .entry)) (now (names .entry)) n) i (bound (now (p .entry)) generation len dirty) ⌝ }
+    ensures rows { λ _. ⌜
+        rowsOf (now (nums .exit)) (now (names .exit)) n
+        ≡ set (rowsOf (now (nums .entry)) (now (names .entry)) n) i (bound (now (p .entry)) (file generation len dirty)) ⌝ }
     ensures flat { λ _. ⌜ Flat cap n (now (nums .exit)) (now (names .exit)) ⌝ }
 {
     put_nums(nums, i, mark(dirty), p.len() as u64, len, generation);
@@ -167,7 +170,9 @@ pub fn unbind_row(
     generation: u64,
 )
     requires { ⌜ Flat cap n (now nums) (now names) × (i < n) ⌝ }
-    ensures rows { λ _. ⌜ rowsOf (now (nums .exit)) (now (names .exit)) n ≡ set (rowsOf (now (nums .entry)) (now (names .entry)) n) i (unbound generation) ⌝ }
+    ensures rows { λ _. ⌜
+        rowsOf (now (nums .exit)) (now (names .exit)) n
+        ≡ set (rowsOf (now (nums .entry)) (now (names .entry)) n) i (unbound generation) ⌝ }
     ensures flat { λ _. ⌜ Flat cap n (now (nums .exit)) (now (names .exit)) ⌝ }
 {
     put_nums(nums, i, 0, 0, 0, generation);
@@ -185,7 +190,10 @@ pub fn set_row_len(
     dirty: bool,
 )
     requires { ⌜ Flat cap n (now nums) (now names) × (i < n) × (isBound (at (rowsOf (now nums) (now names) n) i) ≡ true) ⌝ }
-    ensures rows { λ _. ⌜ rowsOf (now (nums .exit)) (now (names .entry)) n ≡ set (rowsOf (now (nums .entry)) (now (names .entry)) n) i (resized len dirty (at (rowsOf (now (nums .entry)) (now (names .entry)) n) i)) ⌝ }
+    ensures rows { λ _. ⌜
+        rowsOf (now (nums .exit)) (now (names .entry)) n
+        ≡ set (rowsOf (now (nums .entry)) (now (names .entry)) n) i
+        (resized len dirty (at (rowsOf (now (nums .entry)) (now (names .entry)) n) i)) ⌝ }
     ensures flat { λ _. ⌜ Flat cap n (now (nums .exit)) (now (names .entry)) ⌝ }
 {
     let at = i * 4;
@@ -196,7 +204,9 @@ pub fn set_row_len(
 // Makes the bound row i clean.
 pub fn clean_row(nums: &mut [u64], names: &[u8], cap: usize, n: usize, i: usize)
     requires { ⌜ Flat cap n (now nums) (now names) × (i < n) × (isBound (at (rowsOf (now nums) (now names) n) i) ≡ true) ⌝ }
-    ensures rows { λ _. ⌜ rowsOf (now (nums .exit)) (now (names .entry)) n ≡ set (rowsOf (now (nums .entry)) (now (names .entry)) n) i (cleaned (at (rowsOf (now (nums .entry)) (now (names .entry)) n) i)) ⌝ }
+    ensures rows { λ _. ⌜
+        rowsOf (now (nums .exit)) (now (names .entry)) n
+        ≡ set (rowsOf (now (nums .entry)) (now (names .entry)) n) i (cleaned (at (rowsOf (now (nums .entry)) (now (names .entry)) n) i)) ⌝ }
     ensures flat { λ _. ⌜ Flat cap n (now (nums .exit)) (now (names .entry)) ⌝ }
 {
     let len = row_len(nums, names, cap, n, i);

@@ -1,1 +1,2 @@
+-- The turns of the loop over the operations, and what comes behind it.
 pub mod Ways

@@ -1,1 +1,2 @@
+-- What a script puts out.
 pub mod Script

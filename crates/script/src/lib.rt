@@ -1,5 +1,6 @@
-// `pool_script` (docs/EXPORTS.md): reads a script, runs it over a small pool of its own through the public calls, and puts out their answers and
-// the last tables. The pool's rows and its device are arrays in here. A script whose setup isn't whole or passes the limits puts out nothing.
+// `pool_script` (docs/EXPORTS.md): reads a script, runs it over a small pool of its own through the public calls, and puts out their
+// answers and the last tables. The pool's rows and its device are arrays in here. A script whose setup isn't whole or passes the limits
+// puts out nothing.
 use device::Geometry;
 use device::Place;
 use operate::Ran;
@@ -8,9 +9,7 @@ use table::Pool;
 ghost use mathlib.Core.Path.{_≡_};
 ghost use Prim.Native.Nat.{_*_, _^_, _≤_, _<_};
 ghost use lib.ListN.{length, replicate};
-ghost use Rattle.device.specs.Device.{dev};
-ghost use Rattle.table.specs.State.{bufs};
-ghost use Rattle.steps.specs.World.{lent};
+ghost use Rattle.steps.specs.World.{before, after};
 ghost use Rattle.reader.specs.Format.{operations};
 ghost use Rattle.reader.specs.Laws.{Fine};
 ghost use Rattle.writer.specs.Writer.{shown, pours, poured};
@@ -33,7 +32,11 @@ fn run(
     out: &mut [u8],
 ) -> Ran
     requires { ⌜ (from ≤ length (now script)) × (length (now script) < 2 ^ 40) ⌝ }
-    ensures ops { λ r. ⌜ reached (shown (now (out .exit)) (r .at)) (lent (dev (now (bytes .exit)) (now (phys .exit)) (r .place)) (bufs (r .pool) (now (nums .exit)) (now (names .exit)) (now (dirs .exit)))) ≡ spoken (runM (now (script .entry)) (now (plan .entry)) geometry (operations (length (now (script .entry))) (now (script .entry)) from) (lent (dev (now (bytes .entry)) (now (phys .entry)) place) (bufs pool (now (nums .entry)) (now (names .entry)) (now (dirs .entry))))) (shown (now (out .entry)) 0) ⌝ }
+    ensures ops { λ r. ⌜
+        reached (shown (now (out .exit)) (r .at)) (after bytes phys (r .place) nums names dirs (r .pool))
+        ≡ spoken (runM (now (script .entry)) (now (plan .entry)) geometry
+        (operations (length (now (script .entry))) (now (script .entry)) from)
+        (before bytes phys place nums names dirs pool)) (shown (now (out .entry)) 0) ⌝ }
     ensures few { λ r. ⌜ r .at ≤ length (now (script .entry)) * 65600 ⌝ }
 {
     let mut ran = Ran {
@@ -87,7 +90,11 @@ fn run_all(
     out: &mut [u8],
 ) -> Ran
     requires { ⌜ (from ≤ length (now script)) × (length (now script) < 2 ^ 40) ⌝ }
-    ensures { λ r. ⌜ reached (shown (now (out .exit)) (r .at)) (lent (dev (now (bytes .exit)) (now (phys .exit)) (r .place)) (bufs (r .pool) (now (nums .exit)) (now (names .exit)) (now (dirs .exit)))) ≡ closed (runM (now (script .entry)) (now (plan .entry)) geometry (operations (length (now (script .entry))) (now (script .entry)) from) (lent (dev (now (bytes .entry)) (now (phys .entry)) place) (bufs pool (now (nums .entry)) (now (names .entry)) (now (dirs .entry))))) (shown (now (out .entry)) 0) ⌝ }
+    ensures { λ r. ⌜
+        reached (shown (now (out .exit)) (r .at)) (after bytes phys (r .place) nums names dirs (r .pool))
+        ≡ closed (runM (now (script .entry)) (now (plan .entry)) geometry
+        (operations (length (now (script .entry))) (now (script .entry)) from)
+        (before bytes phys place nums names dirs pool)) (shown (now (out .entry)) 0) ⌝ }
 {
     let ran = run(
         bytes,
@@ -158,9 +165,13 @@ fn on_rows(
     out: &mut [u8],
 ) -> usize
     requires { ⌜ Fine (now script) setup × (from ≤ length (now script)) ⌝ }
-    ensures output { λ r. ⌜ shown (now (out .exit)) r ≡ pours (whole (ranM (now (script .entry)) setup (now (bytes .entry)) (now (phys .entry)) from)) (shown (now (out .entry)) 0) ⌝ }
-    ensures bytes { λ _. ⌜ now (bytes .exit) ≡ ranM (now (script .entry)) setup (now (bytes .entry)) (now (phys .entry)) from .left .dev .bytes ⌝ }
-    ensures phys { λ _. ⌜ now (phys .exit) ≡ ranM (now (script .entry)) setup (now (bytes .entry)) (now (phys .entry)) from .left .dev .phys ⌝ }
+    ensures output { λ r. ⌜
+        shown (now (out .exit)) r
+        ≡ pours (whole (ranM (now (script .entry)) setup (now (bytes .entry)) (now (phys .entry)) from)) (shown (now (out .entry)) 0) ⌝ }
+    ensures bytes { λ _. ⌜
+        now (bytes .exit) ≡ ranM (now (script .entry)) setup (now (bytes .entry)) (now (phys .entry)) from .left .dev .bytes ⌝ }
+    ensures phys { λ _. ⌜
+        now (phys .exit) ≡ ranM (now (script .entry)) setup (now (bytes .entry)) (now (phys .entry)) from .left .dev .phys ⌝ }
 {
     let rows = setup.rows;
     let dir_rows = setup.dir_rows;
@@ -193,7 +204,9 @@ fn on_rows(
 // Runs a script of this setup over a device of its own.
 fn on_device(script: &[u8], setup: Setup, out: &mut [u8]) -> usize
     requires { ⌜ Fine (now script) setup ⌝ }
-    ensures { λ r. ⌜ shown (now (out .exit)) r ≡ pours (behindSetup (now (script .entry)) setup (patchedDevice (now (script .entry)) setup)) (shown (now (out .entry)) 0) ⌝ }
+    ensures { λ r. ⌜
+        shown (now (out .exit)) r
+        ≡ pours (behindSetup (now (script .entry)) setup (patchedDevice (now (script .entry)) setup)) (shown (now (out .entry)) 0) ⌝ }
 {
     let slots = setup.slots;
     let n = slots * setup.size;
@@ -214,7 +227,8 @@ fn on_device(script: &[u8], setup: Setup, out: &mut [u8]) -> usize
     )
 }
 
-// Runs the script, and writes what it puts out to out as far as that reaches. Gives the length of the whole output, 0 if the setup isn't whole.
+// Runs the script, and writes what it puts out to out as far as that reaches. Gives the length of the whole output, 0 if the setup isn't
+// whole.
 pub fn pool_script(script: &[u8], out: &mut [u8]) -> usize
     ensures { λ r. ⌜ shown (now (out .exit)) r ≡ poured (scriptM (now (script .entry))) (now (out .entry)) ⌝ }
 {

@@ -10,7 +10,7 @@ use lib.Seq.{take-all, take-at, take-append-add, length-take-le}
 use borrow.Author.Tests.{leb-true, leb-false}
 use Rattle.le.specs.Le.{laid}
 use Rattle.le.specs.Parts.{copy-back, length-laid}
-use Rattle.slots.specs.Slots.{kept}
+use Rattle.slots.specs.Slots.{extended}
 
 -- as much of a part as there is room for
 cut : (part : List ℕ) (room n : ℕ) → n ≡ min room (length part) → take room part ≡ take n part
@@ -39,7 +39,7 @@ module _ (d part : List ℕ) (held n : ℕ) {ys : List ℕ} (h : held ≤ length
   pub appended-fits : held + n ≤ length after
   appended-fits = rw (after-laid, length-laid d held (take n part) (omega (arith, few))) (omega arith)
 
-  pub appended : take (held + n) after ≡ kept d held part
+  pub appended : take (held + n) after ≡ extended d held part
   unfolding laid
   appended =
       let k : length (take held d) ≡ held = length-take-le held d h in

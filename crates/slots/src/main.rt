@@ -2,6 +2,7 @@
 // plan, reads standard input in blocks, cuts it into lines, has `lines` answer each, and writes the answers to standard output when a block
 // is done. A line of any length takes the room of 1,025 bytes, which is enough to see that it is too long. No contract can speak of what is
 // read or written; what a line comes to is `lines`'s to say.
+use calls_gate::Call;
 use device::Place;
 use libc::STDIN_FILENO;
 use libc::STDOUT_FILENO;
@@ -9,14 +10,14 @@ use table::Pool;
 ghost use mathlib.Core.Path.{_≡_};
 ghost use Prim.Native.Nat.{_+_, _-_, _≤_, _<_, min};
 ghost use lib.ListN.{length, take};
-ghost use Rattle.slots.specs.Slots.{Fits, kept};
+ghost use Rattle.slots.specs.Slots.{InBuffers, extended};
 
 // No answer is longer: a dump has at most 4 files and 8 directories.
 const ROOM: usize = 8192;
 
 // What goes on from line to line: the place and the record of the pool, how many bytes of a line are held, how many bytes of answers wait,
 // and where in the block the next line starts.
-struct Run {
+struct Progress {
     place: Place,
     pool: Pool,
     held: usize,
@@ -30,16 +31,17 @@ fn main() {
     let mut nums = [0u64; 16];
     let mut names = name_rows();
     let mut dirs = dir_rows();
-    let mounted = intake::mount(
+    let mounted = lines::ask(
         &mut bytes,
         &mut phys,
-        lines::geometry(),
-        b"",
         Place { at: 0, last: 0 },
         &mut nums,
         &mut names,
         &mut dirs,
-        4,
+        mount::zero(),
+        Call::Mount { slots: 4 },
+        b"",
+        b"",
     );
     let place = mounted.place;
     let pool = mounted.pool;
@@ -88,7 +90,7 @@ fn serve(
     let mut line = line_buffer();
     let mut input = io::large_buffer();
     let mut out = io::large_buffer();
-    let run = Run {
+    let run = Progress {
         place: place,
         pool: pool,
         held: 0,
@@ -116,12 +118,12 @@ fn answer_all(
     nums: &mut [u64],
     names: &mut [u8],
     dirs: &mut [u8],
-    run: Run,
+    run: Progress,
     line: &mut [u8],
     input: &mut [u8],
     out: &mut [u8],
 )
-    requires { ⌜ Fits (length (now line)) (length (now out)) run ⌝ }
+    requires { ⌜ InBuffers (length (now line)) (length (now out)) run ⌝ }
 {
     let mut r = run;
     let mut turns = u64::MAX;
@@ -143,13 +145,13 @@ fn answer_block(
     nums: &mut [u64],
     names: &mut [u8],
     dirs: &mut [u8],
-    run: Run,
+    run: Progress,
     line: &mut [u8],
     input: &[u8],
     out: &mut [u8],
-) -> Run
-    requires { ⌜ Fits (length (now line)) (length (now out)) run ⌝ }
-    ensures { λ r. ⌜ Fits (length (now (line .exit))) (length (now (out .exit))) r ⌝ }
+) -> Progress
+    requires { ⌜ InBuffers (length (now line)) (length (now out)) run ⌝ }
+    ensures { λ r. ⌜ InBuffers (length (now (line .exit))) (length (now (out .exit))) r ⌝ }
 {
     let mut r = run;
     while r.at < input.len() {
@@ -158,7 +160,7 @@ fn answer_block(
     write(out, r.used);
     let place = r.place;
     let pool = r.pool;
-    Run {
+    Progress {
         place: place,
         pool: pool,
         held: r.held,
@@ -174,13 +176,13 @@ fn next_line(
     nums: &mut [u64],
     names: &mut [u8],
     dirs: &mut [u8],
-    run: Run,
+    run: Progress,
     line: &mut [u8],
     input: &[u8],
     out: &mut [u8],
-) -> Run
-    requires { ⌜ Fits (length (now line)) (length (now out)) run × (run .at < length (now input)) ⌝ }
-    ensures { λ r. ⌜ Fits (length (now (line .exit))) (length (now (out .exit))) r × (run .at < r .at) ⌝ }
+) -> Progress
+    requires { ⌜ InBuffers (length (now line)) (length (now out)) run × (run .at < length (now input)) ⌝ }
+    ensures { λ r. ⌜ InBuffers (length (now (line .exit))) (length (now (out .exit))) r × (run .at < r .at) ⌝ }
 {
     let at = run.at;
     let place = run.place;
@@ -188,7 +190,7 @@ fn next_line(
     let end = commands::run_end(input, at, b'\n');
     let held = append(line, run.held, &input[at..end]);
     if end == input.len() {
-        return Run {
+        return Progress {
             place: place,
             pool: pool,
             held: held,
@@ -196,7 +198,7 @@ fn next_line(
             at: end,
         };
     }
-    let whole = Run {
+    let whole = Progress {
         place: place,
         pool: pool,
         held: held,
@@ -209,7 +211,7 @@ fn next_line(
 // Puts a part of a line behind the bytes that are held, as far as the buffer reaches, and gives how many are held then.
 fn append(line: &mut [u8], held: usize, part: &[u8]) -> usize
     requires { ⌜ held ≤ length (now line) ⌝ }
-    ensures { λ r. ⌜ take r (now (line .exit)) ≡ kept (now (line .entry)) held (now (part .entry)) ⌝ }
+    ensures { λ r. ⌜ take r (now (line .exit)) ≡ extended (now (line .entry)) held (now (part .entry)) ⌝ }
     ensures { λ r. ⌜ r ≤ length (now (line .exit)) ⌝ }
 {
     let n = least(line.len() - held, part.len());
@@ -230,12 +232,12 @@ fn reply(
     nums: &mut [u64],
     names: &mut [u8],
     dirs: &mut [u8],
-    run: Run,
+    run: Progress,
     line: &[u8],
     out: &mut [u8],
-) -> Run
-    requires { ⌜ Fits (length (now line)) (length (now out)) run ⌝ }
-    ensures { λ r. ⌜ Fits (length (now (line .entry))) (length (now (out .exit))) r × (r .at ≡ run .at) ⌝ }
+) -> Progress
+    requires { ⌜ InBuffers (length (now line)) (length (now out)) run ⌝ }
+    ensures { λ r. ⌜ InBuffers (length (now (line .entry))) (length (now (out .exit))) r × (r .at ≡ run .at) ⌝ }
 {
     let held = run.held;
     let place = run.place;
@@ -254,7 +256,7 @@ fn reply(
     );
     let after = said.place;
     let left = said.pool;
-    Run {
+    Progress {
         place: after,
         pool: left,
         held: 0,
@@ -290,11 +292,11 @@ fn answer_last(
     nums: &mut [u64],
     names: &mut [u8],
     dirs: &mut [u8],
-    run: Run,
+    run: Progress,
     line: &[u8],
     out: &mut [u8],
 )
-    requires { ⌜ Fits (length (now line)) (length (now out)) run ⌝ }
+    requires { ⌜ InBuffers (length (now line)) (length (now out)) run ⌝ }
 {
     let held = run.held;
     if held != 0 {

@@ -11,16 +11,17 @@ use Rattle.header.specs.declared.Header.{Header}
 use Rattle.header.specs.Block.{freeHeader, boundHeader, encoded}
 use Rattle.device.specs.declared.Place.{Place}
 use Rattle.device.specs.declared.Geometry.{Geometry}
-use Rattle.device.specs.Device.{Dev, dev, Shape, flushed, flushM, headerWriteM, dataTruncateM}
+use Rattle.device.specs.Device.{Dev, dev, Shape, dataTruncateM}
+use Rattle.places.proofs.Laws.{then-stopped, then-goes}
 use Rattle.rows.specs.Rows.{Row, unbound, at, pathOf, lenOf, genOf, cleaned, rowsOf, Flat}
 use Rattle.rows.specs.Laws.{length-rows, name-part}
 use Rattle.table.specs.declared.Pool.{Pool}
 use Rattle.table.specs.State.{Bufs, bufs, queueOf, view, poolOf, flat}
 use Rattle.table.specs.Queue.{spent, pushed, ticked}
+use Rattle.table.specs.Changes.{withRow, row-flat}
 use Rattle.table.specs.Laws.{pool-canon, pool-rows, queue-room, push-flat, spend-flat}
 use Rattle.steps.specs.World.{Lent, lent, viewW, flatW, Ready}
-use Rattle.steps.specs.Steps.{fineM, andThen, putM, freeBlock, freeM, withRow, unbinds, released, releaseM, rowHeader, rowBlock, syncRowM}
-use Rattle.steps.specs.Laws.{row-flat}
+use Rattle.steps.specs.Steps.{fineM, putM, freeBlock, freeM, unbinds, released, releaseM, rowHeader, rowBlock, syncRowM}
 
 -- ---- on the device
 
@@ -28,31 +29,7 @@ use Rattle.steps.specs.Laws.{row-flat}
 pub on-device : (g : Geometry) (l : Lent) (i : ℕ) → Ready g l → i < l .bufs .pool .held → Shape g (l .dev .bytes) (l .dev .phys) × (i < length (l .dev .phys))
 on-device g l i R h = (R .shape, omega (arith, R .slots))
 
--- the last call was not done: the next is not made
-pub then-stopped : (d e : Dev) (next : Dev → Dev) → e ≡ d → (e .place .last ≡ 0 → ⊥) → e ≡ andThen d next
-then-stopped d e next q ne =
-    let f : fineM d ≡ false = ne-eqb _ _ (λ z. ne (ap (λ (x : Dev). x .place .last) q ∙ z)) in
-    rw f q
-
--- it was: the next is made
-pub then-goes : (d e a : Dev) (next : Dev → Dev) → e ≡ d → e .place .last ≡ 0 → a ≡ next e → a ≡ andThen d next
-then-goes d e a next q z h =
-    let f : fineM d ≡ true = eq-eqb _ _ (sym (ap (λ (x : Dev). x .place .last) q) ∙ z) in
-    rw f (h ∙ ap next q)
-
 module _ (plan : List ℕ) (g : Geometry) (i : ℕ) (d : Dev) (b h : List ℕ) (p : Place) where
-  module _ (x y : List ℕ) (same : x ≡ y) (w : dev b h p ≡ headerWriteM plan g i x d) where
-    stored : dev b h p ≡ headerWriteM plan g i y d
-    stored = w ∙ ap (λ (z : List ℕ). headerWriteM plan g i z d) same
-
-    pub put-stopped : (p .last ≡ 0 → ⊥) → dev b h p ≡ putM plan g i y d
-    unfolding putM
-    put-stopped ne = then-stopped (headerWriteM plan g i y d) (dev b h p) (flushM plan) stored ne
-
-    pub put-done : (r : Place) → p .last ≡ 0 → r ≡ flushed plan p → dev b h r ≡ putM plan g i y d
-    unfolding putM flushM
-    put-done r z f = then-goes (headerWriteM plan g i y d) (dev b h p) (dev b h r) (flushM plan) stored z (ap (dev b h) f)
-
   module _ (generation : ℕ) (x : List ℕ) (same : x ≡ freeBlock generation) (w : dev b h p ≡ putM plan g i x d) where
     put : dev b h p ≡ putM plan g i (freeBlock generation) d
     put = w ∙ ap (λ (z : List ℕ). putM plan g i z d) same
@@ -87,10 +64,10 @@ module _ (g : Geometry) (l : Lent) (R : Ready g l) (i : ℕ) (h : i < l .bufs .p
   room q e =
       let f : q .free ≡ b .pool .free = ap (λ (x : Pool). x .free) e in
       let k : length (queueOf (b .pool)) ≡ b .pool .free = ap (λ (x : Pool). x .free) (pool-canon b (R .pool)) in
-      (omega (arith, few), omega (arith, R .pool .valid .few, R .pool .valid .small, length-rows (b .nums) (b .names) (b .pool .held)))
+      (omega (arith, few), omega (arith, R .pool .valid .counts .few, R .pool .valid .counts .small, length-rows (b .nums) (b .names) (b .pool .held)))
 
   module _ (plan l₁ n₁ : List ℕ) (e : rowsOf l₁ n₁ (b .pool .held) ≡ set (rowsOf (b .nums) (b .names) (b .pool .held)) i (unbound (b .pool .counter)))
-      (F : Flat (b .pool .rows) (b .pool .held) l₁ n₁) (q : Pool) (t : q ≡ ticked (b .pool))
+      (F : Flat (b .pool .chosen .rows) (b .pool .held) l₁ n₁) (q : Pool) (t : q ≡ ticked (b .pool))
       (d : Dev) (f : d ≡ freeM plan g i (b .pool .counter) (l .dev)) where
     unbound-flat : bufs q l₁ n₁ (b .dirs) ≡ flat (unbinds i (view b))
     unfolding unbinds view
@@ -134,7 +111,7 @@ row-part g l R i h x e =
     let b = l .bufs in
     let F = pool-rows b (R .pool) in
     let k = header-path (at (rowsOf (b .nums) (b .names) (b .pool .held)) i) x e in
-    let p = name-part (b .pool .rows) (b .pool .held) (b .nums) (b .names) F i h (x .«path_len») k in
+    let p = name-part (b .pool .chosen .rows) (b .pool .held) (b .nums) (b .names) F i h (x .«path_len») k in
     (p .0, p .1, ap length (p .1) ∙ sym k, omega (arith, F .short i))
 
 module _ (g : Geometry) (l : Lent) (R : Ready g l) (i : ℕ) (plan : List ℕ) (d : Dev) (x : Header) (p : List ℕ)
@@ -157,7 +134,7 @@ module _ (g : Geometry) (l : Lent) (R : Ready g l) (i : ℕ) (plan : List ℕ) (
       rw k (ap₂ lent f (sym (R .pool .canon)))
 
   pub sync-done : (l₁ : List ℕ) → rowsOf l₁ (c .names) (c .pool .held) ≡ set (rowsOf (c .nums) (c .names) (c .pool .held)) i (cleaned row)
-      → Flat (c .pool .rows) (c .pool .held) l₁ (c .names) → d .place .last ≡ 0
+      → Flat (c .pool .chosen .rows) (c .pool .held) l₁ (c .names) → d .place .last ≡ 0
       → lent d (bufs (c .pool) l₁ (c .names) (c .dirs)) ≡ flatW (syncRowM plan g i (viewW l))
   unfolding syncRowM flatW viewW view
   sync-done l₁ e F z =

@@ -2,25 +2,25 @@
 use mathlib.Core.Path.{_≡_, refl}
 use mathlib.Core.Bool.{true, false}
 use mathlib.Core.List.{[], _∷_}
-use Rattle.rows.specs.Rows.{unbound, bound}
+use Rattle.rows.specs.Rows.{file, unbound, bound}
 use Rattle.table.specs.State.{State}
 use Rattle.table.specs.Queue.{queued, spent}
-use Rattle.steps.specs.Steps.{withRow, unbinds, released}
+use Rattle.table.specs.Changes.{withRow}
+use Rattle.steps.specs.Steps.{unbinds, released}
 
 -- Slots 0 and 1 hold "a" and "b", the second one dirty and of 9 bytes.
 three : State
 three =
     record {
-      cap = 4;
-      dirCap = 0;
-      rows = bound (97 ∷ []) 5 0 false ∷ bound (98 ∷ []) 6 9 true ∷ unbound 0 ∷ [];
+      chosen = record { rows = 4; «dir_rows» = 0 };
+      rows = bound (97 ∷ []) (file 5 0 false) ∷ bound (98 ∷ []) (file 6 9 true) ∷ unbound 0 ∷ [];
       dirs = [];
       queue = 2 ∷ [];
       counter = 7;
     }
 
 -- Done: unbound under generation 7, and last in the queue.
-done-rows : released 1 true three .rows ≡ bound (97 ∷ []) 5 0 false ∷ unbound 7 ∷ unbound 0 ∷ []
+done-rows : released 1 true three .rows ≡ bound (97 ∷ []) (file 5 0 false) ∷ unbound 7 ∷ unbound 0 ∷ []
 unfolding three released queued unbinds spent withRow
 done-rows = refl
 

@@ -1,18 +1,14 @@
 -- A pool with its device stays one: what the steps keep, and what they leave as it was.
 use Prim.Native.Nat.{ℕ, _+_, _^_, _≤_, _<_}
-use native.Mathlib.Decide.{ℕ-discrete}
 use native.Mathlib.Omega.{arith}
 use mathlib.Core.Path.{_≡_, refl, sym, ap, ap₂, _∙_, subst}
-use mathlib.Core.Logic.{_≢_, _⊎_, inl, inr}
-use mathlib.Core.Bool.{Bool, true, false, cond, false≢true}
+use mathlib.Core.Logic.{_≢_}
+use mathlib.Core.Bool.{Bool, true, false, cond}
 use mathlib.Core.List.{List, [], _∷_, _++_}
 use lib.Dec.{lit≤}
 use lib.ListN.{length, set, length-set}
 use lib.Seq.{getD-set-same, getD-set-other}
 use Rattle.lists.specs.Distinct.{In}
-use Rattle.text.specs.Text.{isText, none}
-use Rattle.text.specs.Grammar.{text-complete}
-use Rattle.path.specs.Path.{components}
 use Rattle.header.specs.Block.{freeHeader}
 use Rattle.header.specs.Laws.{length-encoded}
 use Rattle.device.specs.declared.Geometry.{Geometry}
@@ -20,14 +16,14 @@ use Rattle.device.specs.Device.{Dev, Shape, flushM, headerWriteM, dataTruncateM
 use Rattle.device.specs.Laws.{Call, header, flush, truncate, slotOf}
 use Rattle.device.specs.Calls.{callM}
 use Rattle.device.specs.Keeps.{call-shape, call-slots}
-use Rattle.rows.specs.Rows.{Row, unbound, at, isBound, pathOf, genOf, resized, cleaned, lenOf, rowsOf, Flat}
-use Rattle.rows.specs.Rows as Rows
-use Rattle.rows.specs.Laws.{length-rows, resized-bound, resized-path, resized-gen}
-use Rattle.table.specs.State.{State, Valid, Bufs, bufs, view, poolOf, flat, IsPool}
+use Rattle.rows.specs.Rows.{Row, unbound, none, at, isBound, resized, cleaned, lenOf}
+use Rattle.rows.specs.Laws.{length-rows}
+use Rattle.table.specs.State.{State, Valid, Bufs, view, poolOf, flat, IsPool}
 use Rattle.table.specs.Queue.{queued, spent}
-use Rattle.table.specs.Laws.{is-pool, pool-canon, pool-dirs, together, queued-valid, spent-valid}
+use Rattle.table.specs.Changes.{withRow, with-row-valid, unbound-admitted, resized-admitted}
+use Rattle.table.specs.Laws.{is-pool, queued-valid, spent-valid}
 use Rattle.steps.specs.World.{World, world, Lent, lent, viewW, flatW, Fit, Ready}
-use Rattle.steps.specs.Steps.{fineM, andThen, putM, freeBlock, freeM, withRow, unbinds, released, releaseM, rowBlock, syncRowM}
+use Rattle.steps.specs.Steps.{fineM, andThen, putM, freeBlock, freeM, unbinds, released, releaseM, rowBlock, syncRowM}
 
 -- ---- a pool with its device, and its buffers
 
@@ -58,107 +54,6 @@ chain-worlds g w l a f k e h = h ∙ ap f (world-is g w l k e .0)
 pub lent-stays : (l : Lent) → IsPool (l .bufs) → l ≡ flatW (viewW l)
 unfolding viewW flatW
 lent-stays l p = ap (lent (l .dev)) (sym (p .canon))
-
--- ---- one row of a pool
-
--- A row that may stand at i: what a pool asks of it.
-pub record Admits (s : State) (i : ℕ) (r : Row) : Type 0 where
-  pub text : isText (pathOf r) ≡ true
-  pub short : length (pathOf r) ≤ 480
-  pub young : genOf r < s .counter
-  pub apart : isBound r ≡ true → (j : ℕ) → j ≢ i → isBound (at (s .rows) j) ≡ true → components (pathOf r) ≡ components (pathOf (at (s .rows) j)) → ⊥
-  pub idle : isBound r ≡ true → In i (s .queue) → ⊥
-
-module _ (s : State) (i : ℕ) (r : Row) (ok : Valid s) (h : i < length (s .rows)) (a : Admits s i r) where
-  abbrev rowsThen : List Row
-  rowsThen = set (s .rows) i r
-
-  -- row j is the new one, or as it was
-  abbrev Which : ℕ → Type 0
-  Which j = ((j ≡ i) × (at rowsThen j ≡ r)) ⊎ ((j ≢ i) × (at rowsThen j ≡ at (s .rows) j))
-
-  each : (j : ℕ) → Which j
-  each j = go (ℕ-discrete j i)
-    where
-      go : Dec (j ≡ i) → Which j
-      go (yes e) = inl (e, ap (at rowsThen) e ∙ getD-set-same (s .rows) i r Rows.none h)
-      go (no n) = inr (n, getD-set-other (s .rows) i j r Rows.none n)
-
-  all-rows : (P : Row → Type 0) → P r → ((j : ℕ) → P (at (s .rows) j)) → (j : ℕ) → P (at rowsThen j)
-  all-rows P p f j = go (each j)
-    where
-      go : Which j → P (at rowsThen j)
-      go (inl e) = subst P (sym (e .1)) p
-      go (inr e) = subst P (sym (e .1)) (f j)
-
-  two-rows : (j k : ℕ) → isBound (at rowsThen j) ≡ true → isBound (at rowsThen k) ≡ true → components (pathOf (at rowsThen j)) ≡ components (pathOf (at rowsThen k)) → j ≡ k
-  two-rows j k b c e = go (each j) (each k)
-    where
-      go : Which j → Which k → j ≡ k
-      go (inl x) (inl y) = x .0 ∙ sym (y .0)
-      go (inl x) (inr y) = absurd (a .apart (rw (x .1) at b) k (y .0) (rw (y .1) at c) (rw (x .1, y .1) at e))
-      go (inr x) (inl y) = absurd (a .apart (rw (y .1) at c) j (x .0) (rw (x .1) at b) (sym (rw (x .1, y .1) at e)))
-      go (inr x) (inr y) = ok .apart j k (rw (x .1) at b) (rw (y .1) at c) (rw (x .1, y .1) at e)
-
-  queue-idle : (j : ℕ) → In j (s .queue) → isBound (at rowsThen j) ≡ false
-  queue-idle j m = go (each j) (isBound r) refl
-    where
-      go : Which j → (t : Bool) → isBound r ≡ t → isBound (at rowsThen j) ≡ false
-      go (inl x) true b = absurd (a .idle b (subst (λ (k : ℕ). In k (s .queue)) (x .0) m))
-      go (inl x) false b = rw (x .1) b
-      go (inr x) t b = rw (x .1) (ok .idle j m)
-
-  pub with-row-valid : Valid (withRow i r s)
-  unfolding withRow
-  with-row-valid =
-      let n : length rowsThen ≡ length (s .rows) = length-set (s .rows) i r in
-      record {
-        small = ok .small;
-        dirs-small = ok .dirs-small;
-        few = omega (arith, ok .few);
-        dirs-few = ok .dirs-few;
-        text = all-rows (λ x. isText (pathOf x) ≡ true) (a .text) (ok .text);
-        short = all-rows (λ x. length (pathOf x) ≤ 480) (a .short) (ok .short);
-        apart = two-rows;
-        young = all-rows (λ x. genOf x < s .counter) (a .young) (ok .young);
-        begun = ok .begun;
-        counted = ok .counted;
-        inside = λ j m. omega (arith, ok .inside j m);
-        idle = queue-idle;
-        once = ok .once;
-        dirs-short = ok .dirs-short;
-        directories = ok .directories;
-      }
-
--- An unbound row may stand anywhere,
-pub unbound-admitted : (s : State) (i g : ℕ) → g < s .counter → Admits s i (unbound g)
-unfolding pathOf genOf isBound
-unbound-admitted s i g h =
-    record { text = text-complete none; short = omega arith; young = h; apart = λ b. absurd (false≢true b); idle = λ b. absurd (false≢true b) }
-
--- and a row with another length and dirty bit in its place.
-pub resized-admitted : (s : State) (i n : ℕ) (d : Bool) → Valid s → Admits s i (resized n d (at (s .rows) i))
-resized-admitted s i n d ok =
-    let r = at (s .rows) i in
-    let b = resized-bound n d r in
-    let p = resized-path n d r in
-    record {
-      text = rw p (ok .text i);
-      short = rw p (ok .short i);
-      young = rw (resized-gen n d r) (ok .young i);
-      apart = λ t j ne u e. ne (sym (ok .apart i j (sym b ∙ t) u (ap components (sym p) ∙ e)));
-      idle = λ t m. false≢true (sym (ok .idle i m) ∙ sym b ∙ t);
-    }
-
--- A row stored in a pool's buffers.
-pub row-flat : (b : Bufs) → IsPool b → (i : ℕ) (r : Row) (l n : List ℕ)
-    → rowsOf l n (b .pool .held) ≡ set (rowsOf (b .nums) (b .names) (b .pool .held)) i r → Flat (b .pool .rows) (b .pool .held) l n
-    → bufs (b .pool) l n (b .dirs) ≡ flat (withRow i r (view b))
-unfolding withRow view poolOf
-row-flat b P i r l n e F =
-    let k : length (rowsOf (b .nums) (b .names) (b .pool .held)) ≡ length (set (rowsOf (b .nums) (b .names) (b .pool .held)) i r) = sym (length-set (rowsOf (b .nums) (b .names) (b .pool .held)) i r) in
-    let q : b .pool ≡ poolOf (withRow i r (view b)) = sym (pool-canon b P) ∙ rw k in
-    together (withRow i r (view b)) (b .pool) l n (b .dirs) q e F refl (pool-dirs b P)
 
 -- ---- the device
 
@@ -208,7 +103,7 @@ unfolding released unbinds withRow spent isBound
 released-valid s i false ok h n c = unbinds-valid s i ok h c
 released-valid s i true ok h n c =
     let r = unbound (s .counter) in
-    queued-valid (unbinds i s) (unbinds-valid s i ok h c) i (rw (length-set (s .rows) i r) h) (ap isBound (getD-set-same (s .rows) i r Rows.none h)) n
+    queued-valid (unbinds i s) (unbinds-valid s i ok h c) i (rw (length-set (s .rows) i r) h) (ap isBound (getD-set-same (s .rows) i r none h)) n
 
 module _ (plan : List ℕ) (g : Geometry) (i : ℕ) (w : World) where
   abbrev s : State
@@ -221,8 +116,7 @@ module _ (plan : List ℕ) (g : Geometry) (i : ℕ) (w : World) where
   abbrev after : Bool → State
   after fine =
       record {
-        cap = s .cap;
-        dirCap = s .dirCap;
+        chosen = s .chosen;
         rows = set (s .rows) i (unbound (s .counter));
         dirs = s .dirs;
         queue = cond fine (s .queue ++ (i ∷ [])) (s .queue);
@@ -239,11 +133,11 @@ module _ (plan : List ℕ) (g : Geometry) (i : ℕ) (w : World) where
 
   -- The slot's row,
   pub release-row : i < length (s .rows) → at (releaseM plan g i w .state .rows) i ≡ unbound (s .counter)
-  release-row h = ap (λ (x : State). at (x .rows) i) release-is ∙ getD-set-same (s .rows) i (unbound (s .counter)) Rows.none h
+  release-row h = ap (λ (x : State). at (x .rows) i) release-is ∙ getD-set-same (s .rows) i (unbound (s .counter)) none h
 
   -- and every other.
   pub release-other : (j : ℕ) → j ≢ i → at (releaseM plan g i w .state .rows) j ≡ at (s .rows) j
-  release-other j n = ap (λ (x : State). at (x .rows) j) release-is ∙ getD-set-other (s .rows) i j (unbound (s .counter)) Rows.none n
+  release-other j n = ap (λ (x : State). at (x .rows) j) release-is ∙ getD-set-other (s .rows) i j (unbound (s .counter)) none n
 
   -- "a pool stays a pool", whatever failed.
   pub release-valid : Valid s → i < length (s .rows) → (In i (s .queue) → ⊥) → s .counter < 2 ^ 63 → Valid (releaseM plan g i w .state)

@@ -1,5 +1,6 @@
 pub mod World
 pub mod Steps
+pub mod Outcome
 pub mod Examples
 pub mod Laws
 pub mod Frees

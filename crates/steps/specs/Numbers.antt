@@ -1,5 +1,5 @@
 -- The number that a device call comes to, and a step of the pool's calls, is one of 01's.
-use Prim.Native.Nat.{ℕ, _+_, _≤_}
+use Prim.Native.Nat.{ℕ, _+_}
 use native.Mathlib.Omega.{arith}
 use mathlib.Core.Bool.{Bool, true, false, cond}
 use mathlib.Core.List.{List}
@@ -8,6 +8,7 @@ use lib.ListN.{length}
 use Rattle.device.specs.declared.Geometry.{Geometry}
 use Rattle.device.specs.Device.{Dev, turn, after, short, stores, stops, seen, flushed, flushM, writeM, headerWriteM, dataWriteM, truncateM, dataTruncateM, readM, dataReadM}
 use Rattle.rows.specs.Rows.{at}
+use Rattle.table.specs.Numbers.{isNumber}
 use Rattle.steps.specs.World.{World}
 use Rattle.steps.specs.Steps.{putM, freeBlock, freeM, releaseM, rowBlock, syncRowM}
 use Rattle.steps.specs.Laws.{then-keeps}
@@ -17,13 +18,10 @@ pub either : {A : Type 0} (P : A → Type 0) (t : Bool) {x y : A} → P x → P 
 either P true p q = p
 either P false p q = q
 
-abbrev pub Few : ℕ → Type 0
-Few n = n ≤ 13
-
 -- ---- what a device call came to
 
 abbrev pub Last : Dev → Type 0
-Last d = Few (d .place .last)
+Last d = isNumber (d .place .last)
 
 abbrev pub LastW : World → Type 0
 LastW w = Last (w .dev)
@@ -33,11 +31,11 @@ module _ (plan : List ℕ) (g : Geometry) where
   unfolding writeM after short
   write-last slot pos src d =
       either Last (eqb (turn plan (d .place)) 1) (omega arith)
-      (either Last (ltb (g .size) pos) (omega arith) (either Few (ltb (stores (turn plan (d .place)) (g .size) pos (length src)) (length src)) (omega arith) (omega arith)))
+      (either Last (ltb (g .size) pos) (omega arith) (either isNumber (ltb (stores (turn plan (d .place)) (g .size) pos (length src)) (length src)) (omega arith) (omega arith)))
 
   pub flush-last : (d : Dev) → Last (flushM plan d)
   unfolding flushM flushed after
-  flush-last d = either Few (stops (turn plan (d .place))) (omega arith) (omega arith)
+  flush-last d = either isNumber (stops (turn plan (d .place))) (omega arith) (omega arith)
 
   pub cut-last : (slot len : ℕ) (d : Dev) → Last (dataTruncateM plan g slot len d)
   unfolding dataTruncateM truncateM after
@@ -47,9 +45,9 @@ module _ (plan : List ℕ) (g : Geometry) where
   unfolding dataWriteM
   store-last slot pos src d = write-last slot (512 + pos) src d
 
-  pub read-last : (slot pos : ℕ) (dst : List ℕ) (d : Dev) → Few (dataReadM plan g slot pos dst d .got .place .last)
+  pub read-last : (slot pos : ℕ) (dst : List ℕ) (d : Dev) → isNumber (dataReadM plan g slot pos dst d .got .place .last)
   unfolding dataReadM readM seen after
-  read-last slot pos dst d = either Few (eqb (turn plan (d .place)) 1) (omega arith) (omega arith)
+  read-last slot pos dst d = either isNumber (eqb (turn plan (d .place)) 1) (omega arith) (omega arith)
 
   pub put-last : (slot : ℕ) (block : List ℕ) (d : Dev) → Last (putM plan g slot block d)
   unfolding putM headerWriteM

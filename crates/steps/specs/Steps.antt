@@ -1,31 +1,21 @@
--- The steps that the pool's calls share: a header written and flushed, a release (01, "Release"), and the sync of one row (01, "sync").
+-- The steps that the pool's calls share, over a header written and flushed (`putM` of crate places): a release (01, "Release"), and the sync of one row (01, "sync").
 use Prim.Native.Nat.{ℕ}
 use mathlib.Core.Bool.{Bool, cond}
 use mathlib.Core.List.{List, []}
-use lib.Dec.{eqb}
-use lib.ListN.{length, set}
+use lib.ListN.{length}
 use Rattle.header.specs.declared.Header.{Header}
 use Rattle.header.specs.Block.{freeHeader, boundHeader, encoded}
 use Rattle.device.specs.declared.Geometry.{Geometry}
-use Rattle.device.specs.Device.{Dev, flushM, headerWriteM, dataTruncateM}
+use Rattle.device.specs.Device.{Dev, dataTruncateM}
+pub use Rattle.places.specs.Put.{fineM, andThen}
+unfoldable pub use Rattle.places.specs.Put.{putM}
 use Rattle.rows.specs.Rows.{Row, unbound, at, pathOf, genOf, lenOf, cleaned}
 use Rattle.table.specs.State.{State}
 use Rattle.table.specs.Queue.{queued, spent}
+use Rattle.table.specs.Changes.{withRow}
 use Rattle.steps.specs.World.{World, world}
 
 -- ---- on the device
-
--- The last device call was done: neither failed nor cut short.
-abbrev pub fineM : Dev → Bool
-fineM d = eqb (d .place .last) 0
-
--- "It stops at the first failure": the next call, if the last one was done.
-abbrev pub andThen : Dev → (Dev → Dev) → Dev
-andThen d next = cond (fineM d) (next d) d
-
--- A block is written as the slot's header, and flushed.
-unfoldable pub putM : List ℕ → Geometry → ℕ → List ℕ → Dev → Dev
-putM plan g slot block d = andThen (headerWriteM plan g slot block d) (flushM plan)
 
 -- The block of a free header.
 abbrev pub freeBlock : ℕ → List ℕ
@@ -36,10 +26,6 @@ unfoldable pub freeM : List ℕ → Geometry → ℕ → ℕ → Dev → Dev
 freeM plan g slot generation d = andThen (putM plan g slot (freeBlock generation) d) (dataTruncateM plan g slot 0)
 
 -- ---- on the pool
-
--- Row i becomes r.
-unfoldable pub withRow : ℕ → Row → State → State
-withRow i r s = record { cap = s .cap; dirCap = s .dirCap; rows = set (s .rows) i r; dirs = s .dirs; queue = s .queue; counter = s .counter }
 
 -- "Unbind under a new generation, length 0": an unbound row has length 0 and is clean.
 unfoldable pub unbinds : ℕ → State → State

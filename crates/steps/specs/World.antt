@@ -1,9 +1,13 @@
 -- The pool with its device, which the calls of pool.rs work on, and all lent buffers.
 use Prim.Native.Nat.{_≤_}
 use lib.ListN.{length}
+use denote.Ref.{now}
+pub use Rattle.lists.specs.Lends.{Run}
 use Rattle.device.specs.declared.Geometry.{Geometry}
-use Rattle.device.specs.Device.{Dev, Shape}
-use Rattle.table.specs.State.{State, Valid, Bufs, view, flat, IsPool}
+use Rattle.device.specs.declared.Place.{Place}
+use Rattle.device.specs.Device.{Dev, dev, Shape}
+use Rattle.table.specs.declared.Pool.{Pool}
+use Rattle.table.specs.State.{State, Valid, Bufs, bufs, view, flat, IsPool}
 
 -- What a pool holds, and its device.
 pub record World : Type 0 where
@@ -40,3 +44,12 @@ pub record Ready (g : Geometry) (l : Lent) : Type 0 where
   pub pool : IsPool (l .bufs)
   pub shape : Shape g (l .dev .bytes) (l .dev .phys)
   pub slots : l .bufs .pool .held ≤ length (l .dev .phys)
+
+-- All that a call was lent, as it was, and as it is left.
+abbrev pub before : Run → Run → Place → Run → Run → Run → Pool → Lent
+before bytes phys p nums names dirs q =
+    lent (dev (now (bytes .entry)) (now (phys .entry)) p) (bufs q (now (nums .entry)) (now (names .entry)) (now (dirs .entry)))
+
+abbrev pub after : Run → Run → Place → Run → Run → Run → Pool → Lent
+after bytes phys p nums names dirs q =
+    lent (dev (now (bytes .exit)) (now (phys .exit)) p) (bufs q (now (nums .exit)) (now (names .exit)) (now (dirs .exit)))

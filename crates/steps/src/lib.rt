@@ -1,7 +1,7 @@
-// The steps that the pool's calls share: the one writer of headers, the release of a slot (`release_slot` of pool.rs over `sync_slot` and
-// `truncate_slot` of sah.rs), and the sync of one row. Each stops at the first device call that fails or is cut short, and the place
-// returned says which number it came to: 0, 10 or 11. Nothing is refused: the caller has seen that the buffers are a pool on its device,
-// that the slot is held, and that a generation is left.
+// The steps that the pool's calls share: the release of a slot (`release_slot` of pool.rs over `sync_slot` and `truncate_slot` of sah.rs),
+// and the sync of one row; both write their header by `places::put_header`. Each stops at the first device call that fails or is cut
+// short, and the place returned says which number it came to: 0, 10 or 11. Nothing is refused: the caller has seen that the buffers are a
+// pool on its device, that the slot is held, and that a generation is left.
 use device::Geometry;
 use device::Place;
 use header::Header;
@@ -11,42 +11,16 @@ ghost use mathlib.Core.Bool.{true};
 ghost use Prim.Native.Nat.{_^_, _≤_, _<_};
 ghost use lib.ListN.{length};
 ghost use Rattle.lists.specs.Distinct.{In};
-ghost use Rattle.header.specs.Block.{maxPath, encoded};
-ghost use Rattle.device.specs.Device.{dev, Shape};
+ghost use Rattle.device.specs.Device.{dev, Shape, devBefore, devAfter};
 ghost use Rattle.rows.specs.Rows.{at, isBound, rowsOf, Flat};
 ghost use Rattle.table.specs.State.{bufs, queueOf};
-ghost use Rattle.steps.specs.World.{lent, viewW, flatW, Ready};
-ghost use Rattle.steps.specs.Steps.{putM, freeM, releaseM, rowHeader, syncRowM};
+ghost use Rattle.steps.specs.World.{lent, viewW, flatW, Ready, before, after};
+ghost use Rattle.steps.specs.Steps.{freeM, releaseM, rowHeader, syncRowM};
 
 // The place after a step, and the pool's record.
 pub struct Stepped {
     pub place: Place,
     pub pool: Pool,
-}
-
-// Writes the slot's header with its path, and flushes it. No other function writes a header.
-pub fn put_header(
-    bytes: &mut [u8],
-    phys: &mut [u64],
-    geometry: Geometry,
-    plan: &[u8],
-    place: Place,
-    slot: usize,
-    header: Header,
-    path: &[u8],
-) -> Place
-    requires { ⌜ Shape geometry (now bytes) (now phys) × (slot < length (now phys)) ⌝ }
-    requires { ⌜ (length (now path) ≡ header .«path_len») × (header .«path_len» ≤ maxPath) ⌝ }
-    ensures same { λ r. ⌜ dev (now (bytes .exit)) (now (phys .exit)) r ≡ putM (now (plan .entry)) geometry slot (encoded header (now (path .entry))) (dev (now (bytes .entry)) (now (phys .entry)) place) ⌝ }
-    ensures kept { λ _. ⌜ Shape geometry (now (bytes .exit)) (now (phys .exit)) ⌝ }
-{
-    let block = header.encode(path);
-    let written = device::header_write(bytes, phys, geometry, plan, place, slot, block);
-    let stored = written.last;
-    if stored != 0 {
-        return written;
-    }
-    device::flush(plan, written)
 }
 
 // Writes the slot's free header under a generation, and cuts its file to nothing.
@@ -60,11 +34,13 @@ pub fn free_slot(
     generation: u64,
 ) -> Place
     requires { ⌜ Shape geometry (now bytes) (now phys) × (slot < length (now phys)) ⌝ }
-    ensures same { λ r. ⌜ dev (now (bytes .exit)) (now (phys .exit)) r ≡ freeM (now (plan .entry)) geometry slot generation (dev (now (bytes .entry)) (now (phys .entry)) place) ⌝ }
+    ensures same { λ r. ⌜
+        devAfter bytes phys r
+        ≡ freeM (now (plan .entry)) geometry slot generation (devBefore bytes phys place) ⌝ }
     ensures kept { λ _. ⌜ Shape geometry (now (bytes .exit)) (now (phys .exit)) ⌝ }
 {
     let free = Header::free(generation);
-    let put = put_header(bytes, phys, geometry, plan, place, slot, free, &[]);
+    let put = places::put_header(bytes, phys, geometry, plan, place, slot, free, &[]);
     let last = put.last;
     if last != 0 {
         return put;
@@ -88,9 +64,11 @@ pub fn release(
 ) -> Stepped
     requires { ⌜ Ready geometry (lent (dev (now bytes) (now phys) place) (bufs pool (now nums) (now names) (now dirs))) ⌝ }
     requires { ⌜ (slot < pool .held) × (In slot (queueOf pool) → ⊥) × (pool .counter < 2 ^ 63) ⌝ }
-    ensures { λ r. ⌜ lent (dev (now (bytes .exit)) (now (phys .exit)) (r .place)) (bufs (r .pool) (now (nums .exit)) (now (names .exit)) (now (dirs .entry))) ≡ flatW (releaseM (now (plan .entry)) geometry slot (viewW (lent (dev (now (bytes .entry)) (now (phys .entry)) place) (bufs pool (now (nums .entry)) (now (names .entry)) (now (dirs .entry)))))) ⌝ }
+    ensures { λ r. ⌜
+        after bytes phys (r .place) nums names dirs (r .pool)
+        ≡ flatW (releaseM (now (plan .entry)) geometry slot (viewW (before bytes phys place nums names dirs pool))) ⌝ }
 {
-    let cap = pool.rows;
+    let cap = pool.chosen.rows;
     let n = pool.held;
     let generation = pool.counter;
     rows::unbind_row(nums, names, cap, n, slot, generation);
@@ -135,14 +113,16 @@ pub fn sync_row(
 ) -> Place
     requires { ⌜ Ready geometry (lent (dev (now bytes) (now phys) place) (bufs pool (now nums) (now names) (now dirs))) ⌝ }
     requires { ⌜ (i < pool .held) × (isBound (at (rowsOf (now nums) (now names) (pool .held)) i) ≡ true) ⌝ }
-    ensures { λ r. ⌜ lent (dev (now (bytes .exit)) (now (phys .exit)) r) (bufs pool (now (nums .exit)) (now (names .entry)) (now (dirs .entry))) ≡ flatW (syncRowM (now (plan .entry)) geometry i (viewW (lent (dev (now (bytes .entry)) (now (phys .entry)) place) (bufs pool (now (nums .entry)) (now (names .entry)) (now (dirs .entry)))))) ⌝ }
+    ensures { λ r. ⌜
+        after bytes phys r nums names dirs pool
+        ≡ flatW (syncRowM (now (plan .entry)) geometry i (viewW (before bytes phys place nums names dirs pool))) ⌝ }
 {
-    let cap = pool.rows;
+    let cap = pool.chosen.rows;
     let n = pool.held;
     let header = row_header(nums, names, cap, n, i);
     let k = header.path_len;
     let from = i * 480;
-    let put = put_header(
+    let put = places::put_header(
         bytes,
         phys,
         geometry,

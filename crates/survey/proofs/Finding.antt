@@ -17,7 +17,7 @@ use Rattle.path.specs.Theorems.{key-same}
 use Rattle.rows.specs.Rows.{Row, unbound, bound, none, at, isBound, pathOf, genOf, holds, find, rowsOf, Flat}
 use Rattle.rows.specs.Laws.{name-part}
 use Rattle.rows.specs.Find.{holds-unbound, holds-path, find-holds, find-le, find-is, find-absent}
-use Rattle.survey.specs.Survey.{survey, rival, meet, step, scan}
+use Rattle.survey.specs.Survey.{Survey, survey, claimRow, rival, meet, step, scan}
 use Rattle.survey.specs.Claims.{rowOf, claimOf, losersOf, left, live, beaten, loserOf}
 use Rattle.survey.specs.Losers.{Alike, held-inside, snoc-alike, scan-alike}
 
@@ -134,14 +134,15 @@ module _ (rs : List Row) (xs : List ℕ) (m i : ℕ) (all : length rs ≡ m) (h 
   pub loser-free : (r : Row) → false ≡ isBound r → m ≡ loserOf m (live xs (take i rs)) r
   unfolding loserOf isBound
   loser-free (unbound g) b = refl
-  loser-free (bound p g n d) b = absurd (false≢true b)
+  loser-free (bound p f) b = absurd (false≢true b)
 
   alone : (r : Row) → true ≡ isBound r → (j : ℕ) → j ≡ find (pathOf r) (live xs (take i rs)) → i ≤ j → m ≡ loserOf m (live xs (take i rs)) r
   unfolding loserOf isBound pathOf
   alone (unbound g) b j f q = absurd (false≢true (sym b))
-  alone (bound p g n d) b j f q =
-      let e : at (live xs (take i rs)) j ≡ none = List·getD-eq-default (live xs (take i rs)) none (omega (arith, long)) in
-      ap (beaten m (length (live xs (take i rs))) g j) (sym e) ∙ ap (λ (t : ℕ). beaten m (length (live xs (take i rs))) g t (at (live xs (take i rs)) t)) f
+  alone (bound p x) b j f q =
+      let L = live xs (take i rs) in
+      let e : at L j ≡ none = List·getD-eq-default L none (omega (arith, long)) in
+      ap (beaten m (length L) (x .gen) j) (sym e) ∙ ap (λ (t : ℕ). beaten m (length L) (x .gen) t (at L t)) f
 
   -- the row that holds the path is the row itself: it has no mark
   same-gen : (p : List ℕ) (j : ℕ) → j < i → holds p (at (live xs (take i rs)) j) ≡ true → genOf (at (live xs (take i rs)) j) ≡ genOf (at rs j)
@@ -157,18 +158,18 @@ module _ (rs : List Row) (xs : List ℕ) (m i : ℕ) (all : length rs ≡ m) (h 
   met : (p : List ℕ) (g j held : ℕ) (x : Row) → holds p x ≡ true → held ≡ genOf x → beaten m i g j x ≡ cond (leb g held) i j
   unfolding holds genOf
   met p g j held (unbound k) e q = absurd (false≢true e)
-  met p g j held (bound t k n d) e q = rw q
+  met p g j held (bound t f) e q = rw q
 
   loser-met : (r : Row) → true ≡ isBound r → (j : ℕ) → j ≡ find (pathOf r) (live xs (take i rs)) → j < i
       → (mine held : ℕ) → mine ≡ genOf r → held ≡ genOf (at rs j) → loserOf m (live xs (take i rs)) r ≡ cond (leb mine held) i j
   unfolding loserOf isBound pathOf genOf
   loser-met (unbound g) b j f q mine held a c = absurd (false≢true (sym b))
-  loser-met (bound p g n d) b j f q mine held a c =
+  loser-met (bound p x) b j f q mine held a c =
       let L = live xs (take i rs) in
       let e : holds p (at L j) ≡ true = rw f (find-holds p L (omega (arith, long))) in
-      ap (λ (t : ℕ). beaten m (length L) g t (at L t)) (sym f)
-      ∙ ap (λ (t : ℕ). beaten m t g j (at L j)) long
-      ∙ met p g j held (at L j) e (c ∙ sym (same-gen p j q e))
+      ap (λ (t : ℕ). beaten m (length L) (x .gen) t (at L t)) (sym f)
+      ∙ ap (λ (t : ℕ). beaten m t (x .gen) j (at L j)) long
+      ∙ met p (x .gen) j held (at L j) e (c ∙ sym (same-gen p j q e))
       ∙ ap (λ (t : ℕ). cond (leb t held) i j) (sym a)
 
   -- p spells the row's path, and j is the first that holds it
@@ -192,13 +193,16 @@ module _ (m : ℕ) (L : List Row) (ls : List ℕ) (short : length L < m) where
   stays : (r : Row) (l : ℕ) → l ≡ loserOf m L r → m ≤ l → Alike (step (claimOf r) (survey L [] ls [] 0)) (survey (L ++ (r ∷ [])) [] ls [] 0)
   unfolding step claimOf loserOf rowOf
   stays (unbound g) l e k = record { rows = snoc-alike L L refl none (unbound g) refl; losers = refl }
-  stays (bound p g n d) l e k = go (at L (find p L)) refl e
+  stays (bound p f) l e k = go (at L (find p L)) refl e
     where
-      go : (x : Row) → at L (find p L) ≡ x → l ≡ beaten m (length L) g (find p L) x → Alike (meet p g n (find p L) x (survey L [] ls [] 0)) (survey (L ++ (bound p g n d ∷ [])) [] ls [] 0)
-      go (unbound h) q e = record { rows = snoc-alike L L refl (bound p g n false) (bound p g n d) refl; losers = append-nil ls }
-      go (bound t h j b) q e = by-test (leb g h) e
+      After : Survey → Type 0
+      After v = Alike v (survey (L ++ (bound p f ∷ [])) [] ls [] 0)
+
+      go : (x : Row) → at L (find p L) ≡ x → l ≡ beaten m (length L) (f .gen) (find p L) x → After (meet p (f .gen) (f .len) (find p L) x (survey L [] ls [] 0))
+      go (unbound h) q e = record { rows = snoc-alike L L refl (claimRow p (f .gen) (f .len)) (bound p f) refl; losers = append-nil ls }
+      go (bound t x) q e = by-test (leb (f .gen) (x .gen)) e
         where
-          by-test : (b : Bool) → l ≡ cond b (length L) (find p L) → Alike (rival p g n (find p L) b (survey L [] ls [] 0)) (survey (L ++ (bound p g n d ∷ [])) [] ls [] 0)
+          by-test : (b : Bool) → l ≡ cond b (length L) (find p L) → After (rival p (f .gen) (f .len) (find p L) b (survey L [] ls [] 0))
           by-test true e = absurd (omega arith)
           by-test false e = absurd (omega (arith, find-le p L))
 
@@ -206,19 +210,24 @@ module _ (m : ℕ) (L : List Row) (ls : List ℕ) (short : length L < m) where
       → Alike (step (claimOf r) (survey L [] ls [] 0)) (survey (set (L ++ (r ∷ [])) l none) [] (ls ++ (l ∷ [])) [] 0) × (l ≤ length L)
   unfolding step claimOf loserOf rowOf
   falls (unbound g) l e k = absurd (omega arith)
-  falls (bound p g n d) l e k = go (at L (find p L)) refl e
+  falls (bound p f) l e k = go (at L (find p L)) refl e
     where
-      go : (x : Row) → at L (find p L) ≡ x → l ≡ beaten m (length L) g (find p L) x
-          → Alike (meet p g n (find p L) x (survey L [] ls [] 0)) (survey (set (L ++ (bound p g n d ∷ [])) l none) [] (ls ++ (l ∷ [])) [] 0) × (l ≤ length L)
+      After : Survey → Type 0
+      After v = Alike v (survey (set (L ++ (bound p f ∷ [])) l none) [] (ls ++ (l ∷ [])) [] 0) × (l ≤ length L)
+
+      go : (x : Row) → at L (find p L) ≡ x → l ≡ beaten m (length L) (f .gen) (find p L) x → After (meet p (f .gen) (f .len) (find p L) x (survey L [] ls [] 0))
       go (unbound h) q e = absurd (omega arith)
-      go (bound t h j b) q e = by-test (leb g h) e
+      go (bound t x) q e = by-test (leb (f .gen) (x .gen)) e
         where
-          by-test : (b : Bool) → l ≡ cond b (length L) (find p L)
-              → Alike (rival p g n (find p L) b (survey L [] ls [] 0)) (survey (set (L ++ (bound p g n d ∷ [])) l none) [] (ls ++ (l ∷ [])) [] 0) × (l ≤ length L)
-          by-test true e = (rw (e, set-append-seam L (bound p g n d) [] none) (record { rows = refl; losers = refl }), omega arith)
+          by-test : (b : Bool) → l ≡ cond b (length L) (find p L) → After (rival p (f .gen) (f .len) (find p L) b (survey L [] ls [] 0))
+          by-test true e = (rw (e, set-append-seam L (bound p f) [] none) (record { rows = refl; losers = refl }), omega arith)
           by-test false e =
               let i : find p L < length L = held-inside L (find p L) q in
-              (rw (e, set-append-left L (bound p g n d ∷ []) (find p L) none i) (record { rows = snoc-alike (set L (find p L) none) (set L (find p L) none) refl (bound p g n false) (bound p g n d) refl; losers = refl }), omega arith)
+              let L′ = set L (find p L) none in (
+                rw (e, set-append-left L (bound p f ∷ []) (find p L) none i)
+                    (record { rows = snoc-alike L′ L′ refl (claimRow p (f .gen) (f .len)) (bound p f) refl; losers = refl }),
+                omega arith,
+              )
 
 -- ---- the loop
 

@@ -22,10 +22,11 @@ use Rattle.device.specs.declared.Geometry.{Geometry}
 use Rattle.device.specs.declared.Got.{Got}
 use Rattle.device.specs.Device.{Dev, dev, turn, after, seen, given, share, read, Read, readM, headerReadM, physOf}
 use Rattle.device.specs.Slots.{share-le}
-use Rattle.rows.specs.Rows.{Row, bound, none, at, rowsOf, flatNums, flatNames, Flat}
+use Rattle.rows.specs.Rows.{Row, none, at, rowsOf, flatNums, flatNames, Flat}
 use Rattle.rows.specs.Laws.{length-rows, rows-grow, rows-shrink}
 use Rattle.survey.specs.declared.Staged.{Staged}
 use Rattle.survey.specs.Heads.{Head, absent, idle, claim, saidOf, headOf, Reads, behind, looked, readsM}
+use Rattle.survey.specs.Survey.{claimRow}
 use Rattle.survey.specs.Claims.{rowOf, asksFor, asks, askedOf}
 
 -- ---- one read
@@ -124,11 +125,11 @@ module _ (plan : List ℕ) (d : Dev) (h : Head) (cap i asked : ℕ) (l s : List 
 
   -- a claim, bound in the new row
   pub slot-claim : (a : ℕ) (t : List ℕ) (g n : ℕ) (l₁ s₁ : List ℕ) → false ≡ eqb (turn plan (d .place)) 1 → a ≡ max asked (asksFor g) → h ≡ claim t g n
-      → rowsOf l₁ s₁ (i + 1) ≡ set (rowsOf l s (i + 1)) i (bound t g n false) → Flat cap (i + 1) l₁ s₁ → SlotDone plan d h cap i asked l s (staged p false a) l₁ s₁
+      → rowsOf l₁ s₁ (i + 1) ≡ set (rowsOf l s (i + 1)) i (claimRow t g n) → Flat cap (i + 1) l₁ s₁ → SlotDone plan d h cap i asked l s (staged p false a) l₁ s₁
   unfolding asks rowOf
   slot-claim a t g n l₁ s₁ e m k v f =
       let w = rows-grow cap i 1 l s F (omega arith) in
-      let z : set (rowsOf l s i ++ (none ∷ [])) i (bound t g n false) ≡ rowsOf l s i ++ (bound t g n false ∷ []) = set-at (rowsOf l s i) none [] (bound t g n false) i (length-rows l s i) in
+      let z : set (rowsOf l s i ++ (none ∷ [])) i (claimRow t g n) ≡ rowsOf l s i ++ (claimRow t g n ∷ []) = set-at (rowsOf l s i) none [] (claimRow t g n) i (length-rows l s i) in
       (pe, (e, (rw k m, ((λ q. v ∙ rw (w .0, k) z), ((λ q. f), (λ q. absurd (false≢true q)))))))
 
 -- ---- what a header says of its slot

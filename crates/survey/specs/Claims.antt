@@ -1,23 +1,23 @@
 -- Headers as rows of the table, and rows as claims: how a survey lies in the lent buffers. 01, "Mount, adopt".
 use Prim.Native.Nat.{ℕ, suc, _^_, max, min}
-use mathlib.Core.Bool.{false, cond}
+use mathlib.Core.Bool.{cond}
 use mathlib.Core.List.{List, [], _∷_, map}
 use lib.Dec.{eqb, leb}
 use lib.ListN.{length, take, drop}
 use Rattle.rows.specs.Rows.{Row, unbound, bound, none, at, find}
 use Rattle.survey.specs.Heads.{Head, absent, idle, claim}
-use Rattle.survey.specs.Survey.{survey, scan}
+use Rattle.survey.specs.Survey.{survey, claimRow, scan}
 
 -- A claim stands in its slot's row, clean; a slot that claims nothing keeps a row of zeros.
 unfoldable pub rowOf : Head → Row
 rowOf absent = none
 rowOf (idle g) = none
-rowOf (claim p g n) = bound p g n false
+rowOf (claim p g n) = claimRow p g n
 
 -- What a row claims.
 unfoldable pub claimOf : Row → Head
 claimOf (unbound g) = absent
-claimOf (bound p g n d) = claim p g n
+claimOf (bound p f) = claim p (f .gen) (f .len)
 
 -- ---- "Counter .. exceeds every valid header's generation"
 
@@ -54,9 +54,9 @@ live (x ∷ xs) (r ∷ rs) = left x r ∷ live xs rs
 -- The slot that loses where a claim of generation g comes as slot i and row j was found to hold its path: i or j; m says that none does.
 abbrev pub beaten : ℕ → ℕ → ℕ → ℕ → Row → ℕ
 beaten m i g j (unbound h) = m
-beaten m i g j (bound q h n d) = cond (leb g h) i j
+beaten m i g j (bound q f) = cond (leb g (f .gen)) i j
 
 -- The slot that loses where the row r comes behind the rows rs.
 unfoldable pub loserOf : ℕ → List Row → Row → ℕ
 loserOf m rs (unbound h) = m
-loserOf m rs (bound p g n d) = beaten m (length rs) g (find p rs) (at rs (find p rs))
+loserOf m rs (bound p f) = beaten m (length rs) (f .gen) (find p rs) (at rs (find p rs))

@@ -4,12 +4,18 @@ use mathlib.Core.Bool.{Bool, true, false, cond, _&&_}
 use mathlib.Core.List.{List, [], _∷_}
 use lib.Dec.{eqb, ltb}
 use lib.ListN.{length}
+use denote.Ref.{RefT, now}
+use denote.Triple.Both.{Both}
 use Rattle.header.specs.declared.Decoded.{Decoded}
 use Rattle.header.specs.declared.Decoded.the-variants.{Absent, Found}
 use Rattle.header.specs.Block.{pathOf, decoded}
 use Rattle.device.specs.declared.Place.{Place}
 use Rattle.device.specs.declared.Geometry.{Geometry}
 use Rattle.device.specs.Device.{Dev, dev, turn, after, given}
+
+-- The device that a function was lent to read, as it was.
+abbrev pub devBefore : Both (RefT (List ℕ)) (RefT (List ℕ)) → Both (RefT (List ℕ)) (RefT (List ℕ)) → Place → Dev
+devBefore bytes phys p = dev (now (bytes .entry)) (now (phys .entry)) p
 
 -- A slot's header: none that is valid; a valid one that claims nothing, with its generation; or a claim: path, generation, file length.
 pub data Head : Type 0 where

@@ -20,7 +20,7 @@ use Rattle.rows.specs.Find.{holds-bound, holds-path, find-holds, find-none}
 use Rattle.dirs.specs.Dirs.{joined, registered}
 use Rattle.dirs.specs.Dirs as Dirs
 use Rattle.survey.specs.Heads.{Head, absent, idle, claim}
-use Rattle.survey.specs.Survey.{Survey, survey, enter, rival, meet, step, scan}
+use Rattle.survey.specs.Survey.{Survey, survey, claimRow, enter, rival, meet, step, scan}
 use Rattle.survey.specs.Claims.{rowOf, asks, askedOf}
 use Rattle.survey.specs.Losers.{held-inside}
 use Rattle.survey.specs.Staged.{vacated, spares, claimed, wants, wantedOf}
@@ -32,9 +32,9 @@ blank = Rows.none
 
 -- The path is free, and the newcomer holds it; or its holder is equal or higher, and the newcomer loses; or the holder loses.
 pub step-ways : (p : List ℕ) (g n : ℕ) (s : Survey) (P : Survey → Type 0)
-    → (length (s .rows) ≤ find p (s .rows) → P (enter p g (s .rows) [] (bound p g n false) s))
+    → (length (s .rows) ≤ find p (s .rows) → P (enter p g (s .rows) [] (claimRow p g n) s))
     → (find p (s .rows) < length (s .rows) → g ≤ genOf (at (s .rows) (find p (s .rows))) → P (enter p g (s .rows) (length (s .rows) ∷ []) blank s))
-    → (find p (s .rows) < length (s .rows) → genOf (at (s .rows) (find p (s .rows))) < g → P (enter p g (set (s .rows) (find p (s .rows)) blank) (find p (s .rows) ∷ []) (bound p g n false) s))
+    → (find p (s .rows) < length (s .rows) → genOf (at (s .rows) (find p (s .rows))) < g → P (enter p g (set (s .rows) (find p (s .rows)) blank) (find p (s .rows) ∷ []) (claimRow p g n) s))
     → P (step (claim p g n) s)
 unfolding step holds genOf
 step-ways p g n s P a b c = go (at (s .rows) (find p (s .rows))) refl
@@ -43,11 +43,11 @@ step-ways p g n s P a b c = go (at (s .rows) (find p (s .rows))) refl
     go (unbound h) q =
         let k : find p (s .rows) < length (s .rows) → ⊥ = λ l. false≢true (ap (holds p) (sym q) ∙ find-holds p (s .rows) l) in
         a (omega (arith, k))
-    go (bound t h m d) q = by-test (leb g h) refl
+    go (bound t f) q = by-test (leb g (f .gen)) refl
       where
-        by-test : (e : Bool) → leb g h ≡ e → P (rival p g n (find p (s .rows)) e s)
-        by-test true e = b (held-inside (s .rows) (find p (s .rows)) q) (rw q (leb-true g h e))
-        by-test false e = c (held-inside (s .rows) (find p (s .rows)) q) (rw q (leb-false g h e))
+        by-test : (e : Bool) → leb g (f .gen) ≡ e → P (rival p g n (find p (s .rows)) e s)
+        by-test true e = b (held-inside (s .rows) (find p (s .rows)) q) (rw q (leb-true g (f .gen) e))
+        by-test false e = c (held-inside (s .rows) (find p (s .rows)) q) (rw q (leb-false g (f .gen) e))
 
 length-snoc : (rs : List Row) (r : Row) → length (rs ++ (r ∷ [])) ≡ suc (length rs)
 length-snoc rs r = length-append rs (r ∷ []) ∙ omega arith
@@ -58,9 +58,9 @@ step-length absent s = length-snoc (s .rows) blank
 step-length (idle g) s = length-snoc (s .rows) blank
 step-length (claim p g n) s =
     step-ways p g n s (λ t. length (t .rows) ≡ suc (length (s .rows)))
-    (λ l. length-snoc (s .rows) (bound p g n false))
+    (λ l. length-snoc (s .rows) (claimRow p g n))
     (λ l k. length-snoc (s .rows) blank)
-    (λ l k. length-snoc (set (s .rows) (find p (s .rows)) blank) (bound p g n false) ∙ ap suc (length-set (s .rows) (find p (s .rows)) blank))
+    (λ l k. length-snoc (set (s .rows) (find p (s .rows)) blank) (claimRow p g n) ∙ ap suc (length-set (s .rows) (find p (s .rows)) blank))
 
 step-free : (h : Head) (s : Survey) → step h s .free ≡ s .free ++ spares (length (s .rows)) (rowOf h ∷ [])
 unfolding step rowOf spares isBound
@@ -208,7 +208,7 @@ unfolding step rowOf holds
 lost-step absent rs s L = none-lost rs blank s _ L refl refl
 lost-step (idle g) rs s L = none-lost rs blank s _ L refl refl
 lost-step (claim p g n) rs s L =
-    let r = bound p g n false in
+    let r = claimRow p g n in
     let j = find p (s .rows) in
     let w = same-long rs r s s L in
     step-ways p g n s (Lost (rs ++ (r ∷ [])))
@@ -372,7 +372,7 @@ apart-step absent s A = apart-blank (s .rows) A
 apart-step (idle g) s A = apart-blank (s .rows) A
 apart-step (claim p g n) s A =
     let j = find p (s .rows) in
-    let r = bound p g n false in
+    let r = claimRow p g n in
     step-ways p g n s (λ t. Apart (t .rows))
     (λ l. apart-snoc (s .rows) r A (λ b i a e. false≢true (sym (find-none p (s .rows) i l) ∙ holds-of p (at (s .rows) i) a e)))
     (λ l k. apart-blank (s .rows) A)

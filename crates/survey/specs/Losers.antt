@@ -8,9 +8,9 @@ use native.Mathlib.Omega.{arith}
 use lib.Dec.{leb}
 use lib.ListN.{length, set, take, length-map, List·getD-map}
 use lib.Seq.{take-append-seam, drop-append-seam}
-use Rattle.rows.specs.Rows.{Row, unbound, bound, none, at, holds, find}
+use Rattle.rows.specs.Rows.{File, Row, unbound, bound, none, at, genOf, holds, find}
 use Rattle.survey.specs.Heads.{Head, absent, idle, claim}
-use Rattle.survey.specs.Survey.{Survey, survey, rival, meet, step, scan}
+use Rattle.survey.specs.Survey.{Survey, survey, claimRow, rival, meet, step, scan}
 use Rattle.survey.specs.Claims.{rowOf, claimOf, losersOf}
 
 -- What a row says to a survey.
@@ -23,7 +23,7 @@ pub record Alike (s t : Survey) : Type 0 where
   pub losers : s .losers ≡ t .losers
 
 -- a row that is bound is a row
-pub held-inside : (rs : List Row) (j : ℕ) {q : List ℕ} {h k : ℕ} {e : Bool} → at rs j ≡ bound q h k e → j < length rs
+pub held-inside : (rs : List Row) (j : ℕ) {q : List ℕ} {f : File} → at rs j ≡ bound q f → j < length rs
 held-inside [] j e = let z : _≡_ {A = ℕ} 0 1 = cc in absurd (omega arith)
 held-inside (r ∷ rs) zero e = omega arith
 held-inside (r ∷ rs) (suc j) e = omega (arith, held-inside rs j e)
@@ -31,7 +31,7 @@ held-inside (r ∷ rs) (suc j) e = omega (arith, held-inside rs j e)
 holds-plain : (p : List ℕ) (r : Row) → holds p (plain r) ≡ holds p r
 unfolding rowOf claimOf holds
 holds-plain p (unbound g) = refl
-holds-plain p (bound q g n d) = refl
+holds-plain p (bound q f) = refl
 
 find-plain : (p : List ℕ) (rs : List Row) → find p (map plain rs) ≡ find p rs
 unfolding find
@@ -60,7 +60,7 @@ module _ (rs ts : List Row) (e : map plain rs ≡ map plain ts) where
   set-alike : (i : ℕ) → map plain (set rs i none) ≡ map plain (set ts i none)
   set-alike i = rw (map-set plain rs i none, map-set plain ts i none, e)
 
-differ : {p : List ℕ} {g n : ℕ} → none ≡ bound p g n false → ⊥
+differ : {p : List ℕ} {g n : ℕ} → none ≡ claimRow p g n → ⊥
 differ e = let z : _≡_ {A = ℕ} 0 1 = cc in omega arith
 
 module _ (p : List ℕ) (g n : ℕ) (s t : Survey) (a : Alike s t) where
@@ -70,19 +70,19 @@ module _ (p : List ℕ) (g n : ℕ) (s t : Survey) (a : Alike s t) where
     losers = rw (a .losers, length-alike (s .rows) (t .rows) (a .rows));
   }
   rival-alike j false = record {
-    rows = snoc-alike (set (s .rows) j none) (set (t .rows) j none) (set-alike (s .rows) (t .rows) (a .rows) j) (bound p g n false) (bound p g n false) refl;
+    rows = snoc-alike (set (s .rows) j none) (set (t .rows) j none) (set-alike (s .rows) (t .rows) (a .rows) j) (claimRow p g n) (claimRow p g n) refl;
     losers = rw (a .losers);
   }
 
   meet-alike : (j : ℕ) (r r′ : Row) → plain r ≡ plain r′ → Alike (meet p g n j r s) (meet p g n j r′ t)
-  unfolding rowOf claimOf
+  unfolding rowOf claimOf genOf
   meet-alike j (unbound h) (unbound h′) e = record {
-    rows = snoc-alike (s .rows) (t .rows) (a .rows) (bound p g n false) (bound p g n false) refl;
+    rows = snoc-alike (s .rows) (t .rows) (a .rows) (claimRow p g n) (claimRow p g n) refl;
     losers = rw (a .losers);
   }
-  meet-alike j (unbound h) (bound q′ h′ m′ d′) e = absurd (differ e)
-  meet-alike j (bound q h m d) (unbound h′) e = absurd (differ (sym e))
-  meet-alike j (bound q h m d) (bound q′ h′ m′ d′) e = let k : h ≡ h′ = cc in rw k (rival-alike j (leb g h′))
+  meet-alike j (unbound h) (bound q′ f′) e = absurd (differ e)
+  meet-alike j (bound q f) (unbound h′) e = absurd (differ (sym e))
+  meet-alike j (bound q f) (bound q′ f′) e = let k : f .gen ≡ f′ .gen = ap genOf e in rw k (rival-alike j (leb g (f′ .gen)))
 
 step-alike : (h : Head) (s t : Survey) → Alike s t → Alike (step h s) (step h t)
 unfolding step

@@ -4,7 +4,7 @@ use mathlib.Core.Bool.{Bool, true, false}
 use mathlib.Core.List.{List, [], _∷_, _++_}
 use lib.Dec.{leb}
 use lib.ListN.{length, set}
-use Rattle.rows.specs.Rows.{Row, unbound, bound, none, at, find}
+use Rattle.rows.specs.Rows.{Row, file, unbound, bound, none, at, find}
 use Rattle.dirs.specs.Dirs.{registered}
 use Rattle.survey.specs.Heads.{Head, absent, idle, claim}
 
@@ -19,6 +19,10 @@ pub record Survey : Type 0 where
 abbrev pub survey : List Row → List ℕ → List ℕ → List (List ℕ) → ℕ → Survey
 survey rs fs ls ds c = record { rows = rs; free = fs; losers = ls; dirs = ds; counter = c }
 
+-- The row of a claim that holds its path: as its header says, so it is clean.
+abbrev pub claimRow : List ℕ → ℕ → ℕ → Row
+claimRow p g n = bound p (file g n false)
+
 -- The newest slot claims nothing: its row is unbound, and it will join the queue. `asked` is what its header asks of the counter.
 abbrev pub spare : ℕ → Survey → Survey
 spare asked s = survey (s .rows ++ (none ∷ [])) (s .free ++ (length (s .rows) ∷ [])) (s .losers) (s .dirs) (max (s .counter) asked)
@@ -30,12 +34,12 @@ enter p g rs ls r s = survey (rs ++ (r ∷ [])) (s .free) (s .losers ++ ls) (reg
 -- Slot j holds the path. "An equal or higher holder makes the newcomer a loser; otherwise the holder loses." (`stands`: equal or higher.)
 abbrev pub rival : List ℕ → ℕ → ℕ → ℕ → Bool → Survey → Survey
 rival p g n j true s = enter p g (s .rows) (length (s .rows) ∷ []) none s
-rival p g n j false s = enter p g (set (s .rows) j none) (j ∷ []) (bound p g n false) s
+rival p g n j false s = enter p g (set (s .rows) j none) (j ∷ []) (claimRow p g n) s
 
 -- The row that the search for the path came to holds it, or the path is free: then the newcomer holds it.
 abbrev pub meet : List ℕ → ℕ → ℕ → ℕ → Row → Survey → Survey
-meet p g n j (unbound h) s = enter p g (s .rows) [] (bound p g n false) s
-meet p g n j (bound q h m d) s = rival p g n j (leb g h) s
+meet p g n j (unbound h) s = enter p g (s .rows) [] (claimRow p g n) s
+meet p g n j (bound q f) s = rival p g n j (leb g (f .gen)) s
 
 -- One more slot, with its header. "Counter .. exceeds every valid header's generation."
 unfoldable pub step : Head → Survey → Survey

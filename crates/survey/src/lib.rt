@@ -12,10 +12,10 @@ ghost use Prim.Native.Nat.{_+_, _-_, _*_, _≤_, _<_, max};
 ghost use lib.ListN.{length, getD, take, replicate};
 ghost use Rattle.lists.specs.Blocks.{pad};
 ghost use lib.Dec.{eqb, ltb};
-ghost use Rattle.device.specs.Device.{dev, turn, given, Shape};
+ghost use Rattle.device.specs.Device.{turn, given, Shape};
 ghost use Rattle.path.specs.Path.{keyOf};
 ghost use Rattle.rows.specs.Rows.{at, pathOf, holds, find, rowsOf, Flat};
-ghost use Rattle.survey.specs.Heads.{headOf, looked, readsM};
+ghost use Rattle.survey.specs.Heads.{devBefore, headOf, looked, readsM};
 ghost use Rattle.survey.specs.Claims.{rowOf, asksFor, asks, askedOf, losersOf, left, live, loserOf};
 
 // The highest counter.
@@ -51,12 +51,20 @@ pub fn stage(
 ) -> Staged
     requires { ⌜ Shape geometry (now bytes) (now phys) × Flat cap n (now nums) (now names) ⌝ }
     requires { ⌜ (n + k ≤ cap) × (n + k ≤ length (now phys)) ⌝ }
-    ensures place { λ r. ⌜ r .place ≡ readsM (now (plan .entry)) geometry n k (dev (now (bytes .entry)) (now (phys .entry)) place) .place ⌝ }
-    ensures failed { λ r. ⌜ r .failed ≡ readsM (now (plan .entry)) geometry n k (dev (now (bytes .entry)) (now (phys .entry)) place) .failed ⌝ }
-    ensures asked { λ r. ⌜ r .asked ≡ askedOf (readsM (now (plan .entry)) geometry n k (dev (now (bytes .entry)) (now (phys .entry)) place) .heads) ⌝ }
-    ensures rows { λ r. ⌜ (r .failed ≡ false → rowsOf (now (nums .exit)) (now (names .exit)) (n + k) ≡ rowsOf (now (nums .entry)) (now (names .entry)) n ++ map rowOf (readsM (now (plan .entry)) geometry n k (dev (now (bytes .entry)) (now (phys .entry)) place) .heads)) ⌝ }
+    ensures place { λ r. ⌜
+        r .place ≡ readsM (now (plan .entry)) geometry n k (devBefore bytes phys place) .place ⌝ }
+    ensures failed { λ r. ⌜
+        r .failed ≡ readsM (now (plan .entry)) geometry n k (devBefore bytes phys place) .failed ⌝ }
+    ensures asked { λ r. ⌜
+        r .asked ≡ askedOf (readsM (now (plan .entry)) geometry n k (devBefore bytes phys place) .heads) ⌝ }
+    ensures rows { λ r. ⌜
+        (r .failed ≡ false
+        → rowsOf (now (nums .exit)) (now (names .exit)) (n + k)
+        ≡ rowsOf (now (nums .entry)) (now (names .entry)) n
+        ++ map rowOf (readsM (now (plan .entry)) geometry n k (devBefore bytes phys place) .heads)) ⌝ }
     ensures flat { λ r. ⌜ (r .failed ≡ false → Flat cap (n + k) (now (nums .exit)) (now (names .exit))) ⌝ }
-    ensures kept { λ r. ⌜ (r .failed ≡ true → (now (nums .exit) ≡ now (nums .entry)) × (now (names .exit) ≡ now (names .entry))) ⌝ }
+    ensures kept { λ r. ⌜
+        (r .failed ≡ true → (now (nums .exit) ≡ now (nums .entry)) × (now (names .exit) ≡ now (names .entry))) ⌝ }
 {
     let end = n + k;
     let mut at = place;
@@ -95,12 +103,20 @@ fn stage_slot(
 ) -> Staged
     requires { ⌜ Shape geometry (now bytes) (now phys) × Flat cap i (now nums) (now names) ⌝ }
     requires { ⌜ (i < cap) × (i < length (now phys)) ⌝ }
-    ensures place { λ r. ⌜ r .place ≡ looked (now (plan .entry)) (dev (now (bytes .entry)) (now (phys .entry)) place) .place ⌝ }
+    ensures place { λ r. ⌜ r .place ≡ looked (now (plan .entry)) (devBefore bytes phys place) .place ⌝ }
     ensures failed { λ r. ⌜ r .failed ≡ eqb (turn (now (plan .entry)) place) 1 ⌝ }
-    ensures asked { λ r. ⌜ r .asked ≡ cond (r .failed) asked (max asked (asks (headOf (given (now (plan .entry)) geometry i 0 512 (dev (now (bytes .entry)) (now (phys .entry)) place))))) ⌝ }
-    ensures rows { λ r. ⌜ (r .failed ≡ false → rowsOf (now (nums .exit)) (now (names .exit)) (i + 1) ≡ rowsOf (now (nums .entry)) (now (names .entry)) i ++ rowOf (headOf (given (now (plan .entry)) geometry i 0 512 (dev (now (bytes .entry)) (now (phys .entry)) place))) ∷ []) ⌝ }
+    ensures asked { λ r. ⌜
+        r .asked
+        ≡ cond (r .failed) asked
+        (max asked (asks (headOf (given (now (plan .entry)) geometry i 0 512 (devBefore bytes phys place))))) ⌝ }
+    ensures rows { λ r. ⌜
+        (r .failed ≡ false
+        → rowsOf (now (nums .exit)) (now (names .exit)) (i + 1)
+        ≡ rowsOf (now (nums .entry)) (now (names .entry)) i
+        ++ rowOf (headOf (given (now (plan .entry)) geometry i 0 512 (devBefore bytes phys place))) ∷ []) ⌝ }
     ensures flat { λ r. ⌜ (r .failed ≡ false → Flat cap (i + 1) (now (nums .exit)) (now (names .exit))) ⌝ }
-    ensures kept { λ r. ⌜ (r .failed ≡ true → (now (nums .exit) ≡ now (nums .entry)) × (now (names .exit) ≡ now (names .entry))) ⌝ }
+    ensures kept { λ r. ⌜
+        (r .failed ≡ true → (now (nums .exit) ≡ now (nums .entry)) × (now (names .exit) ≡ now (names .entry))) ⌝ }
 {
     let mut block = header::zeros();
     let got = device::header_read(bytes, phys, geometry, plan, place, i, &mut block);
@@ -223,7 +239,10 @@ fn zeros() -> [u8; 64]
 // The slot that loses where row i comes behind the rows before it, of which some have lost: i, the holder of its path, or m for none.
 fn loser(nums: &[u64], names: &[u8], cap: usize, m: usize, lost: &[u8], i: usize) -> usize
     requires { ⌜ Flat cap m (now nums) (now names) × (i < m) × (m ≤ length (now lost)) ⌝ }
-    ensures { λ r. ⌜ r ≡ loserOf m (live (now (lost .entry)) (take i (rowsOf (now (nums .entry)) (now (names .entry)) m))) (at (rowsOf (now (nums .entry)) (now (names .entry)) m) i) ⌝ }
+    ensures { λ r. ⌜
+        r
+        ≡ loserOf m (live (now (lost .entry)) (take i (rowsOf (now (nums .entry)) (now (names .entry)) m)))
+        (at (rowsOf (now (nums .entry)) (now (names .entry)) m) i) ⌝ }
 {
     if rows::is_bound(nums, names, cap, m, i) {
         let k = rows::path_len(nums, names, cap, m, i);
@@ -278,7 +297,10 @@ fn stands(
     key: u32,
 ) -> bool
     requires { ⌜ Flat cap m (now nums) (now names) × (j < m) × (m ≤ length (now lost)) × (key ≡ keyOf (now p)) ⌝ }
-    ensures { λ r. ⌜ r ≡ holds (now (p .entry)) (left (getD (now (lost .entry)) j 0) (at (rowsOf (now (nums .entry)) (now (names .entry)) m) j)) ⌝ }
+    ensures { λ r. ⌜
+        r
+        ≡ holds (now (p .entry))
+        (left (getD (now (lost .entry)) j 0) (at (rowsOf (now (nums .entry)) (now (names .entry)) m) j)) ⌝ }
 {
     if lost[j] != 0 {
         return false;

@@ -1,121 +1,136 @@
--- A changed row, and other directories: what the calls make of a state, and when it is valid again.
+-- A changed row, and other directories: what the calls make of a state, when it is valid again, and how it lies in the buffers.
 use Prim.Native.Nat.{ℕ, _≤_, _<_}
 use mathlib.Core.Path.{_≡_, refl, sym, ap, _∙_, subst}
+use mathlib.Core.Logic.{_≢_, _⊎_, inl, inr}
 use mathlib.Core.List.{List}
-use mathlib.Core.Bool.{Bool, true, false}
+use mathlib.Core.Bool.{Bool, true, false, false≢true}
 use native.Mathlib.Omega.{arith}
 use native.Mathlib.Decide.{ℕ-discrete}
 use lib.ListN.{length, set, length-set}
 use lib.Seq.{getD-set-same, getD-set-other}
 use Rattle.lists.specs.Distinct.{In}
 use Rattle.text.specs.Text.{isText}
+use Rattle.text.specs.Text as Text
+use Rattle.text.specs.Grammar.{text-complete}
 use Rattle.path.specs.Path.{components}
-use Rattle.rows.specs.Rows.{Row, none, at, isBound, pathOf, genOf}
-use Rattle.dirs.specs.Dirs.{Dirs}
-use Rattle.table.specs.State.{State, Valid}
+use Rattle.rows.specs.Rows.{Row, unbound, none, at, isBound, pathOf, genOf, resized, rowsOf, Flat}
+use Rattle.rows.specs.Laws.{resized-bound, resized-path, resized-gen}
+use Rattle.table.specs.State.{State, Directories, Valid, Bufs, bufs, view, poolOf, flat, IsPool}
+use Rattle.table.specs.Laws.{pool-canon, pool-dirs, together}
 
 -- Row i becomes r.
-unfoldable pub rowed : ℕ → Row → State → State
-rowed i r s = record { cap = s .cap; dirCap = s .dirCap; rows = set (s .rows) i r; dirs = s .dirs; queue = s .queue; counter = s .counter }
+unfoldable pub withRow : ℕ → Row → State → State
+withRow i r s = record { chosen = s .chosen; rows = set (s .rows) i r; dirs = s .dirs; queue = s .queue; counter = s .counter }
 
 -- The directories become ds.
-unfoldable pub dired : List (List ℕ) → State → State
-dired ds s = record { cap = s .cap; dirCap = s .dirCap; rows = s .rows; dirs = ds; queue = s .queue; counter = s .counter }
+unfoldable pub withDirs : List (List ℕ) → State → State
+withDirs ds s = record { chosen = s .chosen; rows = s .rows; dirs = ds; queue = s .queue; counter = s .counter }
 
 -- r may stand in row i: what 01 asks of a row, and, where it is bound, that the slot is not free and no other row has its path.
-pub record Fits (s : State) (i : ℕ) (r : Row) : Type 0 where
-  pub within : i < length (s .rows)
+pub record Admits (s : State) (i : ℕ) (r : Row) : Type 0 where
   pub text : isText (pathOf r) ≡ true
   pub short : length (pathOf r) ≤ 480
   pub young : genOf r < s .counter
-  pub taken : isBound r ≡ true → In i (s .queue) → ⊥
-  pub alone : isBound r ≡ true → (j : ℕ) → (j ≡ i → ⊥) → isBound (at (s .rows) j) ≡ true → components (pathOf r) ≡ components (pathOf (at (s .rows) j)) → ⊥
+  pub apart : isBound r ≡ true → (j : ℕ) → j ≢ i → isBound (at (s .rows) j) ≡ true → components (pathOf r) ≡ components (pathOf (at (s .rows) j)) → ⊥
+  pub idle : isBound r ≡ true → In i (s .queue) → ⊥
 
--- what holds of r, and of every other row, holds of every row
-at-set : (P : Row → Type 0) (rs : List Row) (i : ℕ) (r : Row) (j : ℕ) → i < length rs → P r → P (at rs j) → P (at (set rs i r) j)
-at-set P rs i r j h p q = go (ℕ-discrete j i)
-  where
-    go : Dec (j ≡ i) → P (at (set rs i r) j)
-    go (yes e) = subst (λ (k : ℕ). P (at (set rs i r) k)) (sym e) (subst P (sym (getD-set-same rs i r none h)) p)
-    go (no e) = subst P (sym (getD-set-other rs i j r none e)) q
+module _ (s : State) (i : ℕ) (r : Row) (ok : Valid s) (h : i < length (s .rows)) (a : Admits s i r) where
+  abbrev rowsThen : List Row
+  rowsThen = set (s .rows) i r
 
-module _ (s : State) (i : ℕ) (r : Row) (ok : Valid s) (F : Fits s i r) where
-  same : at (set (s .rows) i r) i ≡ r
-  same = getD-set-same (s .rows) i r none (F .within)
+  -- row j is the new one, or as it was
+  abbrev Which : ℕ → Type 0
+  Which j = ((j ≡ i) × (at rowsThen j ≡ r)) ⊎ ((j ≢ i) × (at rowsThen j ≡ at (s .rows) j))
 
-  other : (j : ℕ) → (j ≡ i → ⊥) → at (set (s .rows) i r) j ≡ at (s .rows) j
-  other j e = getD-set-other (s .rows) i j r none e
-
-  row-apart : (j k : ℕ) → isBound (at (set (s .rows) i r) j) ≡ true → isBound (at (set (s .rows) i r) k) ≡ true
-      → components (pathOf (at (set (s .rows) i r) j)) ≡ components (pathOf (at (set (s .rows) i r) k)) → j ≡ k
-  row-apart j k a b c = go (ℕ-discrete j i) (ℕ-discrete k i)
+  each : (j : ℕ) → Which j
+  each j = go (ℕ-discrete j i)
     where
-      to-row : (x : ℕ) → x ≡ i → at (set (s .rows) i r) x ≡ r
-      to-row x e = ap (at (set (s .rows) i r)) e ∙ same
+      go : Dec (j ≡ i) → Which j
+      go (yes e) = inl (e, ap (at rowsThen) e ∙ getD-set-same (s .rows) i r none h)
+      go (no n) = inr (n, getD-set-other (s .rows) i j r none n)
 
-      go : Dec (j ≡ i) → Dec (k ≡ i) → j ≡ k
-      go (yes d) (yes e) = d ∙ sym e
-      go (yes d) (no e) =
-          let x = to-row j d in
-          let y = other k e in
-          absurd (F .alone (rw x at a) k e (rw y at b) (rw (x, y) at c))
-      go (no d) (yes e) =
-          let x = other j d in
-          let y = to-row k e in
-          absurd (F .alone (rw y at b) j d (rw x at a) (sym (rw (x, y) at c)))
-      go (no d) (no e) =
-          let x = other j d in
-          let y = other k e in
-          ok .apart j k (rw x at a) (rw y at b) (rw (x, y) at c)
-
-  row-idle : (x : ℕ) → In x (s .queue) → isBound (at (set (s .rows) i r) x) ≡ false
-  row-idle x m = go (ℕ-discrete x i) (isBound r) refl
+  all-rows : (P : Row → Type 0) → P r → ((j : ℕ) → P (at (s .rows) j)) → (j : ℕ) → P (at rowsThen j)
+  all-rows P p f j = go (each j)
     where
-      go : Dec (x ≡ i) → (t : Bool) → isBound r ≡ t → isBound (at (set (s .rows) i r) x) ≡ false
-      go (no e) t b = ap isBound (other x e) ∙ ok .idle x m
-      go (yes e) false b = ap (λ (k : ℕ). isBound (at (set (s .rows) i r) k)) e ∙ ap isBound same ∙ b
-      go (yes e) true b = absurd (F .taken b (subst (λ (k : ℕ). In k (s .queue)) e m))
+      go : Which j → P (at rowsThen j)
+      go (inl e) = subst P (sym (e .1)) p
+      go (inr e) = subst P (sym (e .1)) (f j)
 
-  -- A row that fits keeps a state valid.
-  pub rowed-valid : Valid (rowed i r s)
-  unfolding rowed
-  rowed-valid =
-      let n : length (set (s .rows) i r) ≡ length (s .rows) = length-set (s .rows) i r in
+  two-rows : (j k : ℕ) → isBound (at rowsThen j) ≡ true → isBound (at rowsThen k) ≡ true
+      → components (pathOf (at rowsThen j)) ≡ components (pathOf (at rowsThen k)) → j ≡ k
+  two-rows j k b c e = go (each j) (each k)
+    where
+      go : Which j → Which k → j ≡ k
+      go (inl x) (inl y) = x .0 ∙ sym (y .0)
+      go (inl x) (inr y) = absurd (a .apart (rw (x .1) at b) k (y .0) (rw (y .1) at c) (rw (x .1, y .1) at e))
+      go (inr x) (inl y) = absurd (a .apart (rw (y .1) at c) j (x .0) (rw (x .1) at b) (sym (rw (x .1, y .1) at e)))
+      go (inr x) (inr y) = ok .slots .apart j k (rw (x .1) at b) (rw (y .1) at c) (rw (x .1, y .1) at e)
+
+  queue-idle : (j : ℕ) → In j (s .queue) → isBound (at rowsThen j) ≡ false
+  queue-idle j m = go (each j) (isBound r) refl
+    where
+      go : Which j → (t : Bool) → isBound r ≡ t → isBound (at rowsThen j) ≡ false
+      go (inl x) true b = absurd (a .idle b (subst (λ (k : ℕ). In k (s .queue)) (x .0) m))
+      go (inl x) false b = rw (x .1) b
+      go (inr x) t b = rw (x .1) (ok .waiting .idle j m)
+
+  -- A row that may stand there keeps a state valid.
+  pub with-row-valid : Valid (withRow i r s)
+  unfolding withRow
+  with-row-valid =
+      let n : length rowsThen ≡ length (s .rows) = length-set (s .rows) i r in
       record {
-        small = ok .small;
-        dirs-small = ok .dirs-small;
-        few = omega (arith, ok .few);
-        dirs-few = ok .dirs-few;
-        text = λ j. at-set (λ (x : Row). isText (pathOf x) ≡ true) (s .rows) i r j (F .within) (F .text) (ok .text j);
-        short = λ j. at-set (λ (x : Row). length (pathOf x) ≤ 480) (s .rows) i r j (F .within) (F .short) (ok .short j);
-        apart = row-apart;
-        young = λ j. at-set (λ (x : Row). genOf x < s .counter) (s .rows) i r j (F .within) (F .young) (ok .young j);
-        begun = ok .begun;
-        counted = ok .counted;
-        inside = λ x m. omega (arith, ok .inside x m);
-        idle = row-idle;
-        once = ok .once;
-        dirs-short = ok .dirs-short;
+        counts = rw n (ok .counts);
+        slots =
+            record {
+              text = all-rows (λ x. isText (pathOf x) ≡ true) (a .text) (ok .slots .text);
+              short = all-rows (λ x. length (pathOf x) ≤ 480) (a .short) (ok .slots .short);
+              apart = two-rows;
+              young = all-rows (λ x. genOf x < s .counter) (a .young) (ok .slots .young);
+            };
+        waiting = record { inside = λ j m. omega (arith, ok .waiting .inside j m); idle = queue-idle; once = ok .waiting .once };
         directories = ok .directories;
       }
 
+-- An unbound row may stand anywhere,
+pub unbound-admitted : (s : State) (i g : ℕ) → g < s .counter → Admits s i (unbound g)
+unfolding pathOf genOf isBound
+unbound-admitted s i g h =
+    record { text = text-complete Text.none; short = omega arith; young = h; apart = λ b. absurd (false≢true b); idle = λ b. absurd (false≢true b) }
+
+-- and a row with another length and dirty bit in its place.
+pub resized-admitted : (s : State) (i n : ℕ) (d : Bool) → Valid s → Admits s i (resized n d (at (s .rows) i))
+resized-admitted s i n d ok =
+    let r = at (s .rows) i in
+    let b = resized-bound n d r in
+    let p = resized-path n d r in
+    record {
+      text = rw p (ok .slots .text i);
+      short = rw p (ok .slots .short i);
+      young = rw (resized-gen n d r) (ok .slots .young i);
+      apart = λ t j ne u e. ne (sym (ok .slots .apart i j (sym b ∙ t) u (ap components (sym p) ∙ e)));
+      idle = λ t m. false≢true (sym (ok .waiting .idle i m) ∙ sym b ∙ t);
+    }
+
 -- Directories such as 01 asks for, as many as there are rows for, keep it valid, too.
-pub dired-valid : (s : State) (ds : List (List ℕ)) → Valid s → length ds ≤ s .dirCap → ((d : List ℕ) → In d ds → length d ≤ 480) → Dirs ds → Valid (dired ds s)
-unfolding dired
-dired-valid s ds ok h k D = record {
-  small = ok .small;
-  dirs-small = ok .dirs-small;
-  few = ok .few;
-  dirs-few = h;
-  text = ok .text;
-  short = ok .short;
-  apart = ok .apart;
-  young = ok .young;
-  begun = ok .begun;
-  counted = ok .counted;
-  inside = ok .inside;
-  idle = ok .idle;
-  once = ok .once;
-  dirs-short = k;
-  directories = D;
-}
+pub with-dirs-valid : (s : State) (ds : List (List ℕ)) → Valid s → length ds ≤ s .chosen .«dir_rows» → Directories ds → Valid (withDirs ds s)
+unfolding withDirs
+with-dirs-valid s ds ok h D =
+    let n = ok .counts in
+    record {
+      counts = record { small = n .small; dirs-small = n .dirs-small; few = n .few; dirs-few = h; begun = n .begun; counted = n .counted };
+      slots = ok .slots;
+      waiting = ok .waiting;
+      directories = D;
+    }
+
+-- A row stored in a pool's buffers.
+pub row-flat : (b : Bufs) → IsPool b → (i : ℕ) (r : Row) (l n : List ℕ)
+    → rowsOf l n (b .pool .held) ≡ set (rowsOf (b .nums) (b .names) (b .pool .held)) i r → Flat (b .pool .chosen .rows) (b .pool .held) l n
+    → bufs (b .pool) l n (b .dirs) ≡ flat (withRow i r (view b))
+unfolding withRow view poolOf
+row-flat b P i r l n e F =
+    let rs = rowsOf (b .nums) (b .names) (b .pool .held) in
+    let k : length rs ≡ length (set rs i r) = sym (length-set rs i r) in
+    let q : b .pool ≡ poolOf (withRow i r (view b)) = sym (pool-canon b P) ∙ rw k in
+    together (withRow i r (view b)) (b .pool) l n (b .dirs) q e F refl (pool-dirs b P)

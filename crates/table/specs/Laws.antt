@@ -7,7 +7,7 @@ use mathlib.Core.Bool.{false}
 use native.Mathlib.Omega.{arith}
 use native.Mathlib.Numerals.{add-one}
 use lib.ListN.{length, take, drop, getD, set, replicate, length-append, length-drop, replicate-append-replicate}
-use lib.Seq.{take-append-le}
+use lib.Seq.{take-append-le, take-suc-set}
 use Rattle.lists.specs.Blocks.{pad, pad-fits, take-pad, getD-pad, snoc-pad}
 use Rattle.lists.specs.Distinct.{In, Distinct, snoc-in, distinct-snoc, distinct-below}
 use Rattle.lists.specs.Distinct.Distinct.{none, more}
@@ -23,21 +23,21 @@ use Rattle.table.specs.Queue.{queued, unqueued, spent, pushed, shifted, 
 
 -- The queue is no longer than the slots held,
 pub queue-few : (s : State) → Valid s → length (s .queue) ≤ length (s .rows)
-queue-few s ok = distinct-below (length (s .rows)) (s .queue) (ok .once) (ok .inside)
+queue-few s ok = distinct-below (length (s .rows)) (s .queue) (ok .waiting .once) (ok .waiting .inside)
 
 -- and fits the record.
 pub queue-fits : (s : State) → Valid s → length (s .queue) ≤ 64
-queue-fits s ok = omega (arith, queue-few s ok, ok .few, ok .small)
+queue-fits s ok = omega (arith, queue-few s ok, ok .counts .few, ok .counts .small)
 
 -- There is room for a slot that is not in the queue.
 pub queue-room : (s : State) (i : ℕ) → Valid s → i < length (s .rows) → (In i (s .queue) → ⊥) → length (s .queue) < 64
 queue-room s i ok h n =
-    let k : suc (length (s .queue)) ≤ length (s .rows) = distinct-below (length (s .rows)) (i ∷ s .queue) (more n (ok .once)) within in
-    omega (arith, ok .few, ok .small)
+    let k : suc (length (s .queue)) ≤ length (s .rows) = distinct-below (length (s .rows)) (i ∷ s .queue) (more n (ok .waiting .once)) within in
+    omega (arith, ok .counts .few, ok .counts .small)
   where
     within : (x : ℕ) → In x (i ∷ s .queue) → x < length (s .rows)
     within x (List·Memᴰ·head e) = omega arith
-    within x (List·Memᴰ·tail m) = ok .inside x m
+    within x (List·Memᴰ·tail m) = ok .waiting .inside x m
 
 -- The queue of a state's record is the state's.
 pub queue-back : (s : State) → length (s .queue) ≤ 64 → queueOf (poolOf s) ≡ s .queue
@@ -49,8 +49,8 @@ pub view-flat : (s : State) → Valid s → view (flat s) ≡ s
 unfolding view flat poolOf
 view-flat s ok =
     rw (
-      rows-flat (s .cap) (s .rows) (ok .few) (ok .short),
-      dirs-flat (s .dirCap) (s .dirs) (ok .dirs-few) (ok .dirs-short),
+      rows-flat (s .chosen .rows) (s .rows) (ok .counts .few) (ok .slots .short),
+      dirs-flat (s .chosen .«dir_rows») (s .dirs) (ok .counts .dirs-few) (ok .directories .short),
       queue-back s (queue-fits s ok),
     )
 
@@ -71,47 +71,42 @@ module _ (b : Bufs) (P : IsPool b) where
   unfolding flat
   pool-canon = ap (λ (x : Bufs). x .pool) (P .canon)
 
-  pub pool-rows : Flat (b .pool .rows) (b .pool .held) (b .nums) (b .names)
+  pub pool-rows : Flat (b .pool .chosen .rows) (b .pool .held) (b .nums) (b .names)
   unfolding flat view
   pool-rows = record {
-    few = omega (arith, P .valid .few, length-rows (b .nums) (b .names) (b .pool .held));
+    few = omega (arith, P .valid .counts .few, length-rows (b .nums) (b .names) (b .pool .held));
     nums = ap (λ (x : Bufs). x .nums) (P .canon);
     names = ap (λ (x : Bufs). x .names) (P .canon);
-    short = P .valid .short;
+    short = P .valid .slots .short;
   }
 
-  pub pool-dirs : FlatDirs (b .pool .«dir_rows») (b .pool .dirs) (b .dirs)
+  pub pool-dirs : FlatDirs (b .pool .chosen .«dir_rows») (b .pool .dirs) (b .dirs)
   unfolding flat view
   pool-dirs = record {
-    few = omega (arith, P .valid .dirs-few, length-dirs (b .dirs) (b .pool .dirs));
+    few = omega (arith, P .valid .counts .dirs-few, length-dirs (b .dirs) (b .pool .dirs));
     flat = ap (λ (x : Bufs). x .dirs) (P .canon);
   }
 
 -- Buffers put together again: the record is that of the state, and the rows are flat and hold its rows.
 pub together : (s : State) (q : Pool) (l n d : List ℕ) → q ≡ poolOf s
-    → rowsOf l n (q .held) ≡ s .rows → Flat (q .rows) (q .held) l n
-    → dirsOf d (q .dirs) ≡ s .dirs → FlatDirs (q .«dir_rows») (q .dirs) d
+    → rowsOf l n (q .held) ≡ s .rows → Flat (q .chosen .rows) (q .held) l n
+    → dirsOf d (q .dirs) ≡ s .dirs → FlatDirs (q .chosen .«dir_rows») (q .dirs) d
     → bufs q l n d ≡ flat s
 unfolding flat poolOf
 together s q l n d e r F t G =
-    let c : q .rows ≡ s .cap = ap (λ (x : Pool). x .rows) e in
-    let k : q .«dir_rows» ≡ s .dirCap = ap (λ (x : Pool). x .«dir_rows») e in
-    let x : l ≡ flatNums (s .cap) (s .rows) = sym (F .nums) ∙ ap₂ flatNums c r in
-    let y : n ≡ flatNames (s .cap) (s .rows) = sym (F .names) ∙ ap₂ flatNames c r in
-    let z : d ≡ flatDirs (s .dirCap) (s .dirs) = sym (G .flat) ∙ ap₂ flatDirs k t in
+    let c : q .chosen .rows ≡ s .chosen .rows = ap (λ (x : Pool). x .chosen .rows) e in
+    let k : q .chosen .«dir_rows» ≡ s .chosen .«dir_rows» = ap (λ (x : Pool). x .chosen .«dir_rows») e in
+    let x : l ≡ flatNums (s .chosen .rows) (s .rows) = sym (F .nums) ∙ ap₂ flatNums c r in
+    let y : n ≡ flatNames (s .chosen .rows) (s .rows) = sym (F .names) ∙ ap₂ flatNames c r in
+    let z : d ≡ flatDirs (s .chosen .«dir_rows») (s .dirs) = sym (G .flat) ∙ ap₂ flatDirs k t in
     rw (e, x, y, z)
 
 -- ---- the queue and the counter, in the record
 
-take-set : (l : List ℕ) (k a : ℕ) → k < length l → take (suc k) (set l k a) ≡ take k l ++ (a ∷ [])
-take-set [] k a h = absurd (omega arith)
-take-set (x ∷ l) zero a h = refl
-take-set (x ∷ l) (suc k) a h = ap (λ (t : List ℕ). x ∷ t) (take-set l k a (omega arith))
-
 -- The slot that joins is the last of the queue,
 pub push-view : (q : Pool) (i : ℕ) → q .free < length (q .queue) → queueOf (pushed i q) ≡ queueOf q ++ (i ∷ [])
 unfolding queueOf pushed
-push-view q i h = rw add-one (take-set (q .queue) (q .free) i h)
+push-view q i h = rw add-one (take-suc-set (q .queue) (q .free) i h)
 
 take-shift : (l : List ℕ) (k : ℕ) → k < length l → take k (shifted l) ≡ drop 1 (take (suc k) l)
 unfolding shifted
@@ -184,7 +179,7 @@ module _ (s : State) (ok : Valid s) where
 
   -- and once only
   pub first-gone : 0 < length (s .queue) → In (getD (s .queue) 0 0) (drop 1 (s .queue)) → ⊥
-  first-gone h m = go (s .queue) (ok .once) h m
+  first-gone h m = go (s .queue) (ok .waiting .once) h m
     where
       go : (q : List ℕ) → Distinct q → 0 < length q → In (getD q 0 0) (drop 1 q) → ⊥
       go [] d h m = omega arith
@@ -192,23 +187,19 @@ module _ (s : State) (ok : Valid s) where
 
   pub queued-valid : (i : ℕ) → i < length (s .rows) → isBound (at (s .rows) i) ≡ false → (In i (s .queue) → ⊥) → Valid (queued i s)
   unfolding queued
-  queued-valid i h f n = record {
-    small = ok .small;
-    dirs-small = ok .dirs-small;
-    few = ok .few;
-    dirs-few = ok .dirs-few;
-    text = ok .text;
-    short = ok .short;
-    apart = ok .apart;
-    young = ok .young;
-    begun = ok .begun;
-    counted = ok .counted;
-    inside = λ x m. ⊎-elim (ok .inside x) (λ e. omega arith) (snoc-in (s .queue) i x m);
-    idle = λ x m. ⊎-elim (ok .idle x) (λ e. ap (λ (j : ℕ). isBound (at (s .rows) j)) e ∙ f) (snoc-in (s .queue) i x m);
-    once = distinct-snoc i (ok .once) n;
-    dirs-short = ok .dirs-short;
-    directories = ok .directories;
-  }
+  queued-valid i h f n =
+      let w = ok .waiting in
+      record {
+        counts = ok .counts;
+        slots = ok .slots;
+        waiting =
+            record {
+              inside = λ x m. ⊎-elim (w .inside x) (λ e. omega arith) (snoc-in (s .queue) i x m);
+              idle = λ x m. ⊎-elim (w .idle x) (λ e. ap (λ (j : ℕ). isBound (at (s .rows) j)) e ∙ f) (snoc-in (s .queue) i x m);
+              once = distinct-snoc i (w .once) n;
+            };
+        directories = ok .directories;
+      }
 
   in-drop : (q : List ℕ) (x : ℕ) → In x (drop 1 q) → In x q
   in-drop [] x m = m
@@ -220,40 +211,36 @@ module _ (s : State) (ok : Valid s) where
 
   pub unqueued-valid : Valid (unqueued s)
   unfolding unqueued
-  unqueued-valid = record {
-    small = ok .small;
-    dirs-small = ok .dirs-small;
-    few = ok .few;
-    dirs-few = ok .dirs-few;
-    text = ok .text;
-    short = ok .short;
-    apart = ok .apart;
-    young = ok .young;
-    begun = ok .begun;
-    counted = ok .counted;
-    inside = λ x m. ok .inside x (in-drop (s .queue) x m);
-    idle = λ x m. ok .idle x (in-drop (s .queue) x m);
-    once = once-drop (s .queue) (ok .once);
-    dirs-short = ok .dirs-short;
-    directories = ok .directories;
-  }
+  unqueued-valid =
+      let w = ok .waiting in
+      record {
+        counts = ok .counts;
+        slots = ok .slots;
+        waiting =
+            record {
+              inside = λ x m. w .inside x (in-drop (s .queue) x m);
+              idle = λ x m. w .idle x (in-drop (s .queue) x m);
+              once = once-drop (s .queue) (w .once);
+            };
+        directories = ok .directories;
+      }
 
   pub spent-valid : s .counter < 2 ^ 63 → Valid (spent s)
   unfolding spent
-  spent-valid h = record {
-    small = ok .small;
-    dirs-small = ok .dirs-small;
-    few = ok .few;
-    dirs-few = ok .dirs-few;
-    text = ok .text;
-    short = ok .short;
-    apart = ok .apart;
-    young = λ i. omega (arith, ok .young i);
-    begun = omega arith;
-    counted = omega arith;
-    inside = ok .inside;
-    idle = ok .idle;
-    once = ok .once;
-    dirs-short = ok .dirs-short;
-    directories = ok .directories;
-  }
+  spent-valid h =
+      let n = ok .counts in
+      let r = ok .slots in
+      record {
+        counts =
+            record {
+              small = n .small;
+              dirs-small = n .dirs-small;
+              few = n .few;
+              dirs-few = n .dirs-few;
+              begun = omega arith;
+              counted = omega arith;
+            };
+        slots = record { text = r .text; short = r .short; apart = r .apart; young = λ i. omega (arith, r .young i) };
+        waiting = ok .waiting;
+        directories = ok .directories;
+      }

@@ -1,4 +1,5 @@
 pub mod State
+pub mod Numbers
 pub mod Queue
 pub mod Laws
 pub mod Changes

@@ -8,21 +8,21 @@ use Rattle.table.specs.State.{State}
 
 -- Slot i joins the queue's end.
 unfoldable pub queued : ℕ → State → State
-queued i s = record { cap = s .cap; dirCap = s .dirCap; rows = s .rows; dirs = s .dirs; queue = s .queue ++ (i ∷ []); counter = s .counter }
+queued i s = record { chosen = s .chosen; rows = s .rows; dirs = s .dirs; queue = s .queue ++ (i ∷ []); counter = s .counter }
 
 -- The first of the queue leaves it.
 unfoldable pub unqueued : State → State
-unqueued s = record { cap = s .cap; dirCap = s .dirCap; rows = s .rows; dirs = s .dirs; queue = drop 1 (s .queue); counter = s .counter }
+unqueued s = record { chosen = s .chosen; rows = s .rows; dirs = s .dirs; queue = drop 1 (s .queue); counter = s .counter }
 
 -- A generation is spent.
 unfoldable pub spent : State → State
-spent s = record { cap = s .cap; dirCap = s .dirCap; rows = s .rows; dirs = s .dirs; queue = s .queue; counter = s .counter + 1 }
+spent s = record { chosen = s .chosen; rows = s .rows; dirs = s .dirs; queue = s .queue; counter = s .counter + 1 }
 
 -- ---- the same in the record
 
 -- The first free cell is written.
 unfoldable pub pushed : ℕ → Pool → Pool
-pushed i q = record { rows = q .rows; «dir_rows» = q .«dir_rows»; held = q .held; dirs = q .dirs; counter = q .counter; free = q .free + 1; queue = set (q .queue) (q .free) i }
+pushed i q = record { chosen = q .chosen; held = q .held; dirs = q .dirs; counter = q .counter; free = q .free + 1; queue = set (q .queue) (q .free) i }
 
 -- All cells move left, and the last becomes zero.
 unfoldable pub shifted : List ℕ → List ℕ
@@ -32,9 +32,9 @@ shifted q = drop 1 q ++ (0 ∷ [])
 unfoldable pub popped : Pool → Popped
 popped q = record {
   slot = getD (q .queue) 0 0;
-  pool = record { rows = q .rows; «dir_rows» = q .«dir_rows»; held = q .held; dirs = q .dirs; counter = q .counter; free = q .free - 1; queue = shifted (q .queue) };
+  pool = record { chosen = q .chosen; held = q .held; dirs = q .dirs; counter = q .counter; free = q .free - 1; queue = shifted (q .queue) };
 }
 
 -- The counter moves on.
 unfoldable pub ticked : Pool → Pool
-ticked q = record { rows = q .rows; «dir_rows» = q .«dir_rows»; held = q .held; dirs = q .dirs; counter = q .counter + 1; free = q .free; queue = q .queue }
+ticked q = record { chosen = q .chosen; held = q .held; dirs = q .dirs; counter = q .counter + 1; free = q .free; queue = q .queue }

@@ -2,10 +2,11 @@
 use Prim.Native.Nat.{ℕ, zero, suc, _+_, _-_, _*_, _^_, _≤_, _<_}
 use mathlib.Core.Path.{_≡_, refl, sym, ap, _∙_}
 use mathlib.Core.List.{List, [], _∷_}
-use mathlib.Core.Bool.{true, false}
+use mathlib.Core.Bool.{Bool, true, false}
 use native.Mathlib.Omega.{arith}
-use lib.ListN.{length, getD}
+use lib.ListN.{length, getD, List·getD-eq-default}
 use Rattle.lists.specs.Blocks.{pad, cat, length-pad, getD-pad, length-cat, flat-at}
+use Rattle.lists.specs.Zeros.{rest-zero}
 use Rattle.rows.specs.Rows.{Row, unbound, bound, none, at, pathOf, genOf, markOf, rowNums, rowName, rowsOf, flatNums, flatNames, Flat}
 use Rattle.rows.specs.Laws.{nums-wide, name-wide, length-rows, nums-long, names-long, num-at}
 use Rattle.dirs.specs.Rows.{dirRow, dirsOf, flatDirs, FlatDirs}
@@ -23,17 +24,17 @@ pathLenAt b i = getD (b .nums) (i * 4 + 1) 0
 
 pub record Reads (b : Bufs) : Type 0 where
   -- the counts
-  pub rows : b .pool .rows ≤ 64
-  pub dir-rows : b .pool .«dir_rows» ≤ 256
-  pub held : b .pool .held ≤ b .pool .rows
-  pub dirs : b .pool .dirs ≤ b .pool .«dir_rows»
+  pub rows : b .pool .chosen .rows ≤ 64
+  pub dir-rows : b .pool .chosen .«dir_rows» ≤ 256
+  pub held : b .pool .held ≤ b .pool .chosen .rows
+  pub dirs : b .pool .dirs ≤ b .pool .chosen .«dir_rows»
   pub free : b .pool .free ≤ b .pool .held
   pub begun : 1 ≤ b .pool .counter
   pub counted : b .pool .counter ≤ 2 ^ 63
   -- the lengths of the buffers
-  pub nums-long : length (b .nums) ≡ b .pool .rows * 4
-  pub names-long : length (b .names) ≡ b .pool .rows * 480
-  pub dirs-long : length (b .dirs) ≡ b .pool .«dir_rows» * 482
+  pub nums-long : length (b .nums) ≡ b .pool .chosen .rows * 4
+  pub names-long : length (b .names) ≡ b .pool .chosen .rows * 480
+  pub dirs-long : length (b .dirs) ≡ b .pool .chosen .«dir_rows» * 482
   pub queue-long : length (b .pool .queue) ≡ 64
   -- what lies past the counts is zero
   pub nums-rest : (j : ℕ) → b .pool .held * 4 ≤ j → getD (b .nums) j 0 ≡ 0
@@ -49,46 +50,43 @@ pub record Reads (b : Bufs) : Type 0 where
 
 -- ---- every pool reads so
 
-pub past-end : (l : List ℕ) (j : ℕ) → length l ≤ j → getD l j 0 ≡ 0
-past-end [] j h = refl
-past-end (x ∷ l) zero h = absurd (omega arith)
-past-end (x ∷ l) (suc j) h = past-end l j (omega arith)
-
-rest-zero : (w n : ℕ) (l b : List ℕ) → pad w l ≡ b → length l ≡ n → n ≤ w → (j : ℕ) → n ≤ j → getD b j 0 ≡ 0
-rest-zero w n l b e k h j i =
-    ap (λ (x : List ℕ). getD x j 0) (sym e) ∙ getD-pad w l j (omega arith) ∙ past-end l j (omega arith)
-
 row-marks : (r : Row) → getD (rowNums r) 0 0 ≤ 2
 unfolding rowNums markOf
 row-marks (unbound g) = omega arith
-row-marks (bound p g n true) = omega arith
-row-marks (bound p g n false) = omega arith
+row-marks (bound p f) = by-mark (f .dirty)
+  where
+    by-mark : (d : Bool) → markOf d ≤ 2
+    by-mark true = omega arith
+    by-mark false = omega arith
 
 row-bare : (r : Row) → getD (rowNums r) 0 0 ≡ 0 → (getD (rowNums r) 1 0 ≡ 0) × (getD (rowNums r) 2 0 ≡ 0)
 unfolding rowNums markOf
 row-bare (unbound g) e = (refl, refl)
-row-bare (bound p g n true) e = absurd (omega arith)
-row-bare (bound p g n false) e = absurd (omega arith)
+row-bare (bound p f) e = by-mark (f .dirty) e
+  where
+    by-mark : (d : Bool) → markOf d ≡ 0 → (length p ≡ 0) × (f .len ≡ 0)
+    by-mark true e = absurd (omega arith)
+    by-mark false e = absurd (omega arith)
 
 row-path : (r : Row) → getD (rowNums r) 1 0 ≡ length (pathOf r)
 unfolding rowNums pathOf
 row-path (unbound g) = refl
-row-path (bound p g n d) = refl
+row-path (bound p f) = refl
 
 row-gen : (r : Row) → getD (rowNums r) 3 0 ≡ genOf r
 unfolding rowNums genOf
 row-gen (unbound g) = refl
-row-gen (bound p g n d) = refl
+row-gen (bound p f) = refl
 
 module _ (b : Bufs) (P : IsPool b) where
-  F : Flat (b .pool .rows) (b .pool .held) (b .nums) (b .names)
+  F : Flat (b .pool .chosen .rows) (b .pool .held) (b .nums) (b .names)
   F = pool-rows b P
 
-  G : FlatDirs (b .pool .«dir_rows») (b .pool .dirs) (b .dirs)
+  G : FlatDirs (b .pool .chosen .«dir_rows») (b .pool .dirs) (b .dirs)
   G = pool-dirs b P
 
   num : (i k : ℕ) → i < b .pool .held → k < 4 → getD (b .nums) (i * 4 + k) 0 ≡ getD (rowNums (at (rowsOf (b .nums) (b .names) (b .pool .held)) i)) k 0
-  num i k h q = num-at (b .pool .rows) (b .pool .held) (b .nums) (b .names) F i h k q
+  num i k h q = num-at (b .pool .chosen .rows) (b .pool .held) (b .nums) (b .names) F i h k q
 
   mark : (i : ℕ) → i < b .pool .held → markAt b i ≡ getD (rowNums (at (rowsOf (b .nums) (b .names) (b .pool .held)) i)) 0 0
   mark i h = let z : i * 4 ≡ i * 4 + 0 = omega arith in ap (λ (k : ℕ). getD (b .nums) k 0) z ∙ num i 0 h (omega arith)
@@ -97,7 +95,7 @@ module _ (b : Bufs) (P : IsPool b) where
   path-len i h = num i 1 h (omega arith) ∙ row-path (at (rowsOf (b .nums) (b .names) (b .pool .held)) i)
 
   pad-fill : (p : List ℕ) (j : ℕ) → length p ≤ 480 → length p ≤ j → getD (pad 480 p) j 0 ≡ 0
-  pad-fill p j h k = getD-pad 480 p j h ∙ past-end p j k
+  pad-fill p j h k = getD-pad 480 p j h ∙ List·getD-eq-default p 0 k
 
   filled : (i j : ℕ) → i < b .pool .held → pathLenAt b i ≤ j → j < 480 → getD (b .names) (i * 480 + j) 0 ≡ 0
   unfolding flatNames rowName
@@ -105,7 +103,7 @@ module _ (b : Bufs) (P : IsPool b) where
       let rs = rowsOf (b .nums) (b .names) (b .pool .held) in
       let n : length rs ≡ b .pool .held = length-rows (b .nums) (b .names) (b .pool .held) in
       ap (λ (x : List ℕ). getD x (i * 480 + j) 0) (sym (F .names))
-      ∙ flat-at rowName 480 name-wide (b .pool .rows) rs i j none (omega (arith, F .few)) (omega arith) q
+      ∙ flat-at rowName 480 name-wide (b .pool .chosen .rows) rs i j none (omega (arith, F .few)) (omega arith) q
       ∙ pad-fill (pathOf (at rs i)) j (F .short i) (omega (arith, path-len i h))
 
   free-long : length (queueOf (b .pool)) ≡ b .pool .free
@@ -128,24 +126,24 @@ module _ (b : Bufs) (P : IsPool b) where
       let n : length rs ≡ b .pool .held = length-rows (b .nums) (b .names) (b .pool .held) in
       let m : length ds ≡ b .pool .dirs = length-dirs (b .dirs) (b .pool .dirs) in
       record {
-        rows = P .valid .small;
-        dir-rows = P .valid .dirs-small;
+        rows = P .valid .counts .small;
+        dir-rows = P .valid .counts .dirs-small;
         held = F .few;
         dirs = G .few;
         free = free-few;
-        begun = P .valid .begun;
-        counted = P .valid .counted;
-        nums-long = nums-long (b .pool .rows) (b .pool .held) (b .nums) (b .names) F;
-        names-long = names-long (b .pool .rows) (b .pool .held) (b .nums) (b .names) F;
-        dirs-long = dirs-long (b .pool .«dir_rows») (b .pool .dirs) (b .dirs) G;
+        begun = P .valid .counts .begun;
+        counted = P .valid .counts .counted;
+        nums-long = nums-long (b .pool .chosen .rows) (b .pool .held) (b .nums) (b .names) F;
+        names-long = names-long (b .pool .chosen .rows) (b .pool .held) (b .nums) (b .names) F;
+        dirs-long = dirs-long (b .pool .chosen .«dir_rows») (b .pool .dirs) (b .dirs) G;
         queue-long = ap length (sym padded) ∙ length-pad 64 (queueOf (b .pool));
-        nums-rest = rest-zero (b .pool .rows * 4) (b .pool .held * 4) (cat rowNums rs) (b .nums) (F .nums) (length-cat rowNums 4 nums-wide rs ∙ rw n) (omega (arith, F .few));
-        names-rest = rest-zero (b .pool .rows * 480) (b .pool .held * 480) (cat rowName rs) (b .names) (F .names) (length-cat rowName 480 name-wide rs ∙ rw n) (omega (arith, F .few));
-        dirs-rest = rest-zero (b .pool .«dir_rows» * 482) (b .pool .dirs * 482) (cat dirRow ds) (b .dirs) (G .flat) (length-cat dirRow 482 row-wide ds ∙ rw m) (omega (arith, G .few));
-        queue-rest = rest-zero 64 (b .pool .free) (queueOf (b .pool)) (b .pool .queue) padded free-long (omega (arith, free-few, F .few, P .valid .small));
+        nums-rest = rest-zero (b .pool .chosen .rows * 4) (b .pool .held * 4) (cat rowNums rs) (b .nums) (F .nums) (length-cat rowNums 4 nums-wide rs ∙ rw n) (omega (arith, F .few));
+        names-rest = rest-zero (b .pool .chosen .rows * 480) (b .pool .held * 480) (cat rowName rs) (b .names) (F .names) (length-cat rowName 480 name-wide rs ∙ rw n) (omega (arith, F .few));
+        dirs-rest = rest-zero (b .pool .chosen .«dir_rows» * 482) (b .pool .dirs * 482) (cat dirRow ds) (b .dirs) (G .flat) (length-cat dirRow 482 row-wide ds ∙ rw m) (omega (arith, G .few));
+        queue-rest = rest-zero 64 (b .pool .free) (queueOf (b .pool)) (b .pool .queue) padded free-long (omega (arith, free-few, F .few, P .valid .counts .small));
         marks = λ i h. omega (arith, mark i h, row-marks (at rs i));
         bare = λ i h e. (num i 1 h (omega arith) ∙ row-bare (at rs i) (sym (mark i h) ∙ e) .0, num i 2 h (omega arith) ∙ row-bare (at rs i) (sym (mark i h) ∙ e) .1);
         short = λ i h. omega (arith, path-len i h, F .short i);
         fill = filled;
-        young = λ i h. omega (arith, num i 3 h (omega arith), row-gen (at rs i), P .valid .young i);
+        young = λ i h. omega (arith, num i 3 h (omega arith), row-gen (at rs i), P .valid .slots .young i);
       }

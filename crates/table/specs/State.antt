@@ -4,6 +4,8 @@ use mathlib.Core.Path.{_≡_}
 use mathlib.Core.List.{List}
 use mathlib.Core.Bool.{true, false}
 use lib.ListN.{length, take}
+use denote.Ref.{now}
+use Rattle.lists.specs.Lends.{Run}
 use Rattle.lists.specs.Blocks.{pad}
 use Rattle.lists.specs.Distinct.{In, Distinct}
 use Rattle.text.specs.Text.{isText}
@@ -11,42 +13,57 @@ use Rattle.path.specs.Path.{components}
 use Rattle.rows.specs.Rows.{Row, at, isBound, pathOf, genOf, rowsOf, flatNums, flatNames}
 use Rattle.dirs.specs.Dirs.{Dirs}
 use Rattle.dirs.specs.Rows.{dirsOf, flatDirs}
+use Rattle.table.specs.declared.Chosen.{Chosen}
 use Rattle.table.specs.declared.Pool.{Pool}
 
 -- ---- what a pool holds
 
--- Slot rows and directory rows, how many of each were chosen at mount (cap, dirCap), the free queue, and the counter: the next generation.
+-- What was chosen at mount, slot rows and directory rows, the free queue, and the counter: the next generation.
 pub record State : Type 0 where
-  pub cap : ℕ
-  pub dirCap : ℕ
+  pub chosen : Chosen
   pub rows : List Row
   pub dirs : List (List ℕ)
   pub queue : List ℕ
   pub counter : ℕ
 
--- 01's words, one by one. That unbound slots are clean with length 0 is part of what a row is. A row past the last is unbound under generation 0.
-pub record Valid (s : State) : Type 0 where
+-- 01's words, in four parts, each of what it speaks of and no more: what changes one part leaves the others as they are.
+
+-- How many rows there are, and the next generation.
+pub record Counts (c : Chosen) (held dirs counter : ℕ) : Type 0 where
   -- "at most 64 slot rows and 256 directory rows, as chosen at mount"
-  pub small : s .cap ≤ 64
-  pub dirs-small : s .dirCap ≤ 256
-  pub few : length (s .rows) ≤ s .cap
-  pub dirs-few : length (s .dirs) ≤ s .dirCap
+  pub small : c .rows ≤ 64
+  pub dirs-small : c .«dir_rows» ≤ 256
+  pub few : held ≤ c .rows
+  pub dirs-few : dirs ≤ c .«dir_rows»
+  -- "counter 1 to 2^63"
+  pub begun : 1 ≤ counter
+  pub counted : counter ≤ 2 ^ 63
+
+-- The slot rows. That unbound slots are clean with length 0 is part of what a row is. A row past the last is unbound under generation 0.
+pub record Slots (rs : List Row) (counter : ℕ) : Type 0 where
   -- "bound paths are text of at most 480 bytes, no two equal"; the path of an unbound row is empty
-  pub text : (i : ℕ) → isText (pathOf (at (s .rows) i)) ≡ true
-  pub short : (i : ℕ) → length (pathOf (at (s .rows) i)) ≤ 480
-  pub apart : (i j : ℕ) → isBound (at (s .rows) i) ≡ true → isBound (at (s .rows) j) ≡ true
-      → components (pathOf (at (s .rows) i)) ≡ components (pathOf (at (s .rows) j)) → i ≡ j
-  -- "generations below the counter, counter 1 to 2^63"
-  pub young : (i : ℕ) → genOf (at (s .rows) i) < s .counter
-  pub begun : 1 ≤ s .counter
-  pub counted : s .counter ≤ 2 ^ 63
-  -- "the free queue holds distinct unbound slots"
-  pub inside : (i : ℕ) → In i (s .queue) → i < length (s .rows)
-  pub idle : (i : ℕ) → In i (s .queue) → isBound (at (s .rows) i) ≡ false
-  pub once : Distinct (s .queue)
-  -- "directories are normal, distinct, and hold every non-empty ancestor of each"; each fits a row
-  pub dirs-short : (d : List ℕ) → In d (s .dirs) → length d ≤ 480
-  pub directories : Dirs (s .dirs)
+  pub text : (i : ℕ) → isText (pathOf (at rs i)) ≡ true
+  pub short : (i : ℕ) → length (pathOf (at rs i)) ≤ 480
+  pub apart : (i j : ℕ) → isBound (at rs i) ≡ true → isBound (at rs j) ≡ true → components (pathOf (at rs i)) ≡ components (pathOf (at rs j)) → i ≡ j
+  -- "generations below the counter"
+  pub young : (i : ℕ) → genOf (at rs i) < counter
+
+-- The free queue, beside the slot rows: "the free queue holds distinct unbound slots".
+pub record Waiting (q : List ℕ) (rs : List Row) : Type 0 where
+  pub inside : (i : ℕ) → In i q → i < length rs
+  pub idle : (i : ℕ) → In i q → isBound (at rs i) ≡ false
+  pub once : Distinct q
+
+-- "directories are normal, distinct, and hold every non-empty ancestor of each"; each fits a row
+pub record Directories (ds : List (List ℕ)) : Type 0 where
+  pub short : (d : List ℕ) → In d ds → length d ≤ 480
+  pub dirs : Dirs ds
+
+pub record Valid (s : State) : Type 0 where
+  pub counts : Counts (s .chosen) (length (s .rows)) (length (s .dirs)) (s .counter)
+  pub slots : Slots (s .rows) (s .counter)
+  pub waiting : Waiting (s .queue) (s .rows)
+  pub directories : Directories (s .dirs)
 
 -- ---- the lent buffers
 
@@ -60,6 +77,13 @@ pub record Bufs : Type 0 where
 abbrev pub bufs : Pool → List ℕ → List ℕ → List ℕ → Bufs
 bufs q l n d = record { pool = q; nums = l; names = n; dirs = d }
 
+-- The rows that a function was lent, with the record: as they were, and as they are left.
+abbrev pub bufsBefore : Run → Run → Run → Pool → Bufs
+bufsBefore nums names dirs q = bufs q (now (nums .entry)) (now (names .entry)) (now (dirs .entry))
+
+abbrev pub bufsAfter : Run → Run → Run → Pool → Bufs
+bufsAfter nums names dirs q = bufs q (now (nums .exit)) (now (names .exit)) (now (dirs .exit))
+
 -- The queue in a record: the first `free` cells.
 unfoldable pub queueOf : Pool → List ℕ
 queueOf q = take (q .free) (q .queue)
@@ -67,8 +91,7 @@ queueOf q = take (q .free) (q .queue)
 -- What the buffers hold.
 unfoldable pub view : Bufs → State
 view b = record {
-  cap = b .pool .rows;
-  dirCap = b .pool .«dir_rows»;
+  chosen = b .pool .chosen;
   rows = rowsOf (b .nums) (b .names) (b .pool .held);
   dirs = dirsOf (b .dirs) (b .pool .dirs);
   queue = queueOf (b .pool);
@@ -78,8 +101,7 @@ view b = record {
 -- The record of a state: the cells past the queue are zero.
 unfoldable pub poolOf : State → Pool
 poolOf s = record {
-  rows = s .cap;
-  «dir_rows» = s .dirCap;
+  chosen = s .chosen;
   held = length (s .rows);
   dirs = length (s .dirs);
   counter = s .counter;
@@ -89,7 +111,9 @@ poolOf s = record {
 
 -- The buffers that hold a state: the rows past the counts are zero.
 unfoldable pub flat : State → Bufs
-flat s = bufs (poolOf s) (flatNums (s .cap) (s .rows)) (flatNames (s .cap) (s .rows)) (flatDirs (s .dirCap) (s .dirs))
+flat s =
+    let n = s .chosen .rows in
+    bufs (poolOf s) (flatNums n (s .rows)) (flatNames n (s .rows)) (flatDirs (s .chosen .«dir_rows») (s .dirs))
 
 -- Buffers are a pool if they hold a valid state, and nothing else.
 pub record IsPool (b : Bufs) : Type 0 where

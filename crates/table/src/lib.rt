@@ -5,11 +5,16 @@ ghost use mathlib.Core.Path.{_≡_};
 ghost use Prim.Native.Nat.{_^_, _<_};
 ghost use Rattle.table.specs.Queue.{pushed, shifted, popped, ticked};
 
-// Rows lent and rows held, of slots and of directories; the next generation; the first `free` cells of `queue` are the free slots, oldest
-// first.
-pub struct Pool {
+// What was chosen at mount: how many slot rows and how many directory rows are lent.
+pub struct Chosen {
     pub rows: usize,
     pub dir_rows: usize,
+}
+
+// What was chosen; the rows held, of slots and of directories; the next generation; the first `free` cells of `queue` are the free slots,
+// oldest first.
+pub struct Pool {
+    pub chosen: Chosen,
     pub held: usize,
     pub dirs: usize,
     pub counter: u64,

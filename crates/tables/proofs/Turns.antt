@@ -11,6 +11,7 @@ use lib.Dec.{eqb}
 use lib.ListN.{length, getD, take, drop, length-append, length-take, drop-of-length-le}
 use lib.Seq.{drop-cons, sets, sets-eq}
 use Rattle.lists.specs.Blocks.{cat}
+use Rattle.lists.specs.Runs.{range, range-more, range-end}
 use Rattle.le.specs.Le.{le}
 use Rattle.le.specs.Fields.{length-le}
 use Rattle.rows.specs.Rows.{Row, at, isBound, pathOf, genOf, lenOf, isDirty, rowsOf}
@@ -23,8 +24,7 @@ use Rattle.admit.specs.Test.{isPool}
 use Rattle.order.specs.Spans.{spelled}
 use Rattle.writer.specs.Writer.{Shown, shown, pours, runOf}
 use Rattle.writer.specs.Laws.{pours-none, pours-append, after-pours}
-use Rattle.tables.specs.Tables.{each, isIn, weight, marksOf, rowShown, dirsShown, poolShown, recordShown}
-use Rattle.tables.specs.Laws.{cat-more, each-more, spelledRuns}
+use Rattle.tables.specs.Tables.{isIn, weight, marksOf, marksAt, rowShown, dirsShown, poolShown, recordShown}
 
 -- ---- a byte that is sought
 
@@ -51,9 +51,15 @@ turn xs ys l o e f = ap (pours ys) f ∙ pours-append xs ys o ∙ ap (λ (t : Li
 pub done : (l : List ℕ) (o : Shown) → l ≡ [] → o ≡ pours l o
 done l o e = sym (pours-none o) ∙ ap (λ (t : List ℕ). pours t o) (sym e)
 
-pub cat-done : {A : Type 0} (f : A → List ℕ) (s : List A) (i : ℕ) → length s ≤ i → cat f (drop i s) ≡ []
-unfolding cat
-cat-done f s i h = rw (drop-of-length-le s {i = i} h)
+-- rows i to n, one behind the other: row i, and then the rest; and nothing behind the last
+module _ (f : ℕ → List ℕ) (n i : ℕ) where
+  pub each-more : i < n → cat f (range i (n - i)) ≡ f i ++ cat f (range (i + 1) (n - (i + 1)))
+  unfolding cat
+  each-more h = ap (cat f) (range-more n i h)
+
+  pub each-end : n ≤ i → cat f (range i (n - i)) ≡ []
+  unfolding cat
+  each-end h = ap (cat f) (range-end n i h)
 
 pub length-run : (p : List ℕ) → length (runOf p) ≡ 2 + length p
 unfolding runOf
@@ -81,7 +87,7 @@ pub marks-are : (p q r p′ q′ r′ : Bool) (x y z : ℕ) → x ≡ weight p 1
 unfolding marksOf
 marks-are p q r p′ q′ r′ x y z ex ey ez ep eq er = rw (ex, ey, ez, ep, eq, er)
 
-pub row-is : (queue : List ℕ) (rs : List Row) (i m g n : ℕ) (p : List ℕ) → m ≡ marksOf (isBound (at rs i)) (isIn i queue) (isDirty (at rs i)) → g ≡ genOf (at rs i) → n ≡ lenOf (at rs i)
+pub row-is : (queue : List ℕ) (rs : List Row) (i m g n : ℕ) (p : List ℕ) → m ≡ marksAt queue rs i → g ≡ genOf (at rs i) → n ≡ lenOf (at rs i)
     → p ≡ pathOf (at rs i) → le 1 m ++ le 8 g ++ le 8 n ++ runOf p ≡ rowShown queue rs i
 unfolding rowShown
 row-is queue rs i m g n p em eg en ep = rw (em, eg, en, ep)
@@ -97,7 +103,7 @@ sets-whole xs l e =
 module _ (b : Bufs) (P : IsPool b) where
   pub few-held : b .pool .held ≤ 64
   unfolding view
-  few-held = omega (arith, P .valid .few, P .valid .small, length-rows (b .nums) (b .names) (b .pool .held))
+  few-held = omega (arith, P .valid .counts .few, P .valid .counts .small, length-rows (b .nums) (b .names) (b .pool .held))
 
   pub free-is : length (take (b .pool .free) (b .pool .queue)) ≡ b .pool .free
   unfolding flat poolOf view queueOf
@@ -109,7 +115,7 @@ module _ (b : Bufs) (P : IsPool b) where
 
   pub few-dirs : b .pool .dirs ≤ 256
   unfolding view
-  few-dirs = omega (arith, P .valid .dirs-few, P .valid .dirs-small, length-dirs (b .dirs) (b .pool .dirs))
+  few-dirs = omega (arith, P .valid .counts .dirs-few, P .valid .counts .dirs-small, length-dirs (b .dirs) (b .pool .dirs))
 
   pub dirs-fit : b .pool .dirs * 482 ≤ length (b .dirs)
   dirs-fit = omega (arith, dirs-long _ _ _ (pool-dirs b P), pool-dirs b P .few)
@@ -120,7 +126,7 @@ module _ (b : Bufs) (P : IsPool b) where
   abbrev rows : List Row
   rows = rowsOf (b .nums) (b .names) (b .pool .held)
 
-  pub pool-is : le 8 (b .pool .counter) ++ le 1 (b .pool .held) ++ each (rowShown queue rows) 0 (b .pool .held) ++ le 1 (b .pool .free) ++ queue ++ dirsShown (dirsOf (b .dirs) (b .pool .dirs))
+  pub pool-is : le 8 (b .pool .counter) ++ le 1 (b .pool .held) ++ cat (rowShown queue rows) (range 0 (b .pool .held)) ++ le 1 (b .pool .free) ++ queue ++ dirsShown (dirsOf (b .dirs) (b .pool .dirs))
       ≡ poolShown (view b)
   unfolding poolShown view queueOf
   pool-is = rw (length-rows (b .nums) (b .names) (b .pool .held), free-is)

@@ -1,10 +1,11 @@
 -- The tables that a script ends with, in the order of docs/EXPORTS.md. All numbers are little-endian: `le 1` is a u8, `le 2` a u16 and so on.
-use Prim.Native.Nat.{ℕ, zero, suc, _+_}
+use Prim.Native.Nat.{ℕ, _+_}
 use mathlib.Core.Bool.{Bool, true, false, cond}
 use mathlib.Core.List.{List, [], _∷_, _++_}
 use lib.Dec.{eqb}
 use lib.ListN.{length}
 use Rattle.lists.specs.Blocks.{cat}
+use Rattle.lists.specs.Runs.{range}
 use Rattle.le.specs.Le.{le}
 use Rattle.order.specs.Spans.{inOrder}
 use Rattle.rows.specs.Rows.{Row, at, isBound, pathOf, genOf, lenOf, isDirty}
@@ -12,11 +13,6 @@ use Rattle.device.specs.Device.{Dev}
 use Rattle.table.specs.State.{State, Bufs, view}
 use Rattle.admit.specs.Test.{isPool}
 use Rattle.writer.specs.Writer.{runOf}
-
--- f i, f (i + 1), .., f (i + k - 1), one behind the other.
-unfoldable pub each : (ℕ → List ℕ) → ℕ → ℕ → List ℕ
-each f i zero = []
-each f i (suc k) = f i ++ each f (suc i) k
 
 -- ---- slot rows
 
@@ -33,10 +29,14 @@ weight b x = cond b x 0
 unfoldable pub marksOf : Bool → Bool → Bool → ℕ
 marksOf bound queued dirty = weight bound 1 + weight queued 2 + weight dirty 4
 
+-- of row i
+abbrev pub marksAt : List ℕ → List Row → ℕ → ℕ
+marksAt queue rs i = marksOf (isBound (at rs i)) (isIn i queue) (isDirty (at rs i))
+
 -- "generation u64, length u64, run path as given (empty if unbound)"
 unfoldable pub rowShown : List ℕ → List Row → ℕ → List ℕ
 rowShown queue rs i =
-    le 1 (marksOf (isBound (at rs i)) (isIn i queue) (isDirty (at rs i))) ++ le 8 (genOf (at rs i)) ++ le 8 (lenOf (at rs i)) ++ runOf (pathOf (at rs i))
+    le 1 (marksAt queue rs i) ++ le 8 (genOf (at rs i)) ++ le 8 (lenOf (at rs i)) ++ runOf (pathOf (at rs i))
 
 -- ---- directories
 
@@ -49,7 +49,7 @@ dirsShown ds = le 2 (length ds) ++ cat runOf (inOrder ds)
 -- "u64 counter", "u8 N, slots the pool holds", "N rows", "u8, then that many u8: the free queue from its front", and the directories.
 unfoldable pub poolShown : State → List ℕ
 poolShown s =
-    le 8 (s .counter) ++ le 1 (length (s .rows)) ++ each (rowShown (s .queue) (s .rows)) 0 (length (s .rows))
+    le 8 (s .counter) ++ le 1 (length (s .rows)) ++ cat (rowShown (s .queue) (s .rows)) (range 0 (length (s .rows)))
     ++ le 1 (length (s .queue)) ++ s .queue ++ dirsShown (s .dirs)
 
 -- "u8 1 if the record is a pool". "If there is no pool the rows, queue and directories have count 0", and the counter is 0.

@@ -1,21 +1,21 @@
-// The tables that a script ends with (docs/EXPORTS.md): the record with its rows, queue and directories, and the device. They go to the output
-// behind what came before. Any record and any buffers may come: what is no pool is said so, and shows none. Nothing is refused.
+// The tables that a script ends with (docs/EXPORTS.md): the record with its rows, queue and directories, and the device. They go to the
+// output behind what came before. Any record and any buffers may come: what is no pool is said so, and shows none. Nothing is refused.
 use device::Place;
 use table::Pool;
 ghost use mathlib.Core.Path.{_≡_};
 ghost use Prim.Native.Nat.{_+_, _*_, _^_, _≤_, _<_};
 ghost use lib.ListN.{length, drop, replicate};
 ghost use Rattle.lists.specs.Blocks.{cat};
+ghost use Rattle.lists.specs.Runs.{range};
 ghost use Rattle.lists.specs.Sort.{sort};
 ghost use Rattle.le.specs.Le.{le};
-ghost use Rattle.rows.specs.Rows.{at, isBound, isDirty, rowsOf, Flat};
+ghost use Rattle.rows.specs.Rows.{rowsOf, Flat};
 ghost use Rattle.dirs.specs.Rows.{dirsOf};
 ghost use Rattle.device.specs.Device.{dev};
 ghost use Rattle.table.specs.State.{bufs, view, IsPool};
 ghost use Rattle.order.specs.Spans.{inOrder, before, spelled, dirSpans, AllInside};
-ghost use Rattle.writer.specs.Writer.{shown, pours, runOf};
-ghost use Rattle.tables.specs.Tables.{each, isIn, weight, marksOf, rowShown, dirsShown, poolShown, recordShown, deviceShown};
-ghost use Rattle.tables.specs.Laws.{spelledRuns};
+ghost use Rattle.writer.specs.Writer.{Puts, runOf};
+ghost use Rattle.tables.specs.Tables.{isIn, weight, marksAt, rowShown, dirsShown, poolShown, recordShown, deviceShown};
 
 // ---- slot rows
 
@@ -43,7 +43,7 @@ fn weigh(flag: bool, x: u64) -> u64
 // The marks of slot row i: bound, in the queue, dirty.
 fn marks(nums: &[u64], names: &[u8], cap: usize, n: usize, i: usize, queue: &[u8]) -> u64
     requires { ⌜ Flat cap n (now nums) (now names) × (i < n) ⌝ }
-    ensures { λ r. ⌜ r ≡ marksOf (isBound (at (rowsOf (now (nums .entry)) (now (names .entry)) n) i)) (isIn i (now (queue .entry))) (isDirty (at (rowsOf (now (nums .entry)) (now (names .entry)) n) i)) ⌝ }
+    ensures { λ r. ⌜ r ≡ marksAt (now (queue .entry)) (rowsOf (now (nums .entry)) (now (names .entry)) n) i ⌝ }
 {
     let bound = weigh(rows::is_bound(nums, names, cap, n, i), 1);
     let queued = weigh(has(queue, i), 2);
@@ -63,7 +63,7 @@ fn put_row(
     at: usize,
 ) -> usize
     requires { ⌜ Flat cap n (now nums) (now names) × (i < n) × (at < 2 ^ 62) ⌝ }
-    ensures row { λ r. ⌜ shown (now (out .exit)) r ≡ pours (rowShown (now (queue .entry)) (rowsOf (now (nums .entry)) (now (names .entry)) n) i) (shown (now (out .entry)) at) ⌝ }
+    ensures row { λ r. ⌜ Puts (rowShown (now (queue .entry)) (rowsOf (now (nums .entry)) (now (names .entry)) n) i) out at r ⌝ }
     ensures few { λ r. ⌜ r ≤ at + 512 ⌝ }
 {
     let m = marks(nums, names, cap, n, i, queue);
@@ -88,7 +88,8 @@ fn put_rows(
     at: usize,
 ) -> usize
     requires { ⌜ Flat cap n (now nums) (now names) × (n ≤ 64) × (at < 2 ^ 61) ⌝ }
-    ensures rows { λ r. ⌜ shown (now (out .exit)) r ≡ pours (each (rowShown (now (queue .entry)) (rowsOf (now (nums .entry)) (now (names .entry)) n)) 0 n) (shown (now (out .entry)) at) ⌝ }
+    ensures rows { λ r. ⌜
+        Puts (cat (rowShown (now (queue .entry)) (rowsOf (now (nums .entry)) (now (names .entry)) n)) (range 0 n)) out at r ⌝ }
     ensures few { λ r. ⌜ r ≤ at + n * 512 ⌝ }
 {
     let mut a = at;
@@ -105,7 +106,7 @@ fn put_rows(
 // The parts of dirs, as runs.
 fn put_spans(dirs: &[u8], spans: &[u32], out: &mut [u8], at: usize) -> usize
     requires { ⌜ AllInside (now dirs) (now spans) × (length (now spans) ≤ 256) × (at < 2 ^ 61) ⌝ }
-    ensures runs { λ r. ⌜ shown (now (out .exit)) r ≡ pours (spelledRuns (now (dirs .entry)) (now (spans .entry))) (shown (now (out .entry)) at) ⌝ }
+    ensures runs { λ r. ⌜ Puts (cat (λ x. runOf (spelled (now (dirs .entry)) x)) (now (spans .entry))) out at r ⌝ }
     ensures few { λ r. ⌜ r ≤ at + length (now (spans .entry)) * 514 ⌝ }
 {
     let mut a = at;
@@ -129,7 +130,7 @@ fn no_spans() -> [u32; 256]
 // The first m directories, as runs, in order; the cells of spans are for sorting.
 fn put_sorted(dirs: &[u8], m: usize, spans: &mut [u32], out: &mut [u8], at: usize) -> usize
     requires { ⌜ (m * 482 ≤ length (now dirs)) × (m ≤ 256) × (length (now spans) ≡ m) × (at < 2 ^ 61) ⌝ }
-    ensures runs { λ r. ⌜ shown (now (out .exit)) r ≡ pours (cat runOf (inOrder (dirsOf (now (dirs .entry)) m))) (shown (now (out .entry)) at) ⌝ }
+    ensures runs { λ r. ⌜ Puts (cat runOf (inOrder (dirsOf (now (dirs .entry)) m))) out at r ⌝ }
     ensures few { λ r. ⌜ r ≤ at + m * 514 ⌝ }
     ensures parts { λ _. ⌜ now (spans .exit) ≡ sort (before (now (dirs .entry))) (dirSpans (dirsOf (now (dirs .entry)) m)) ⌝ }
 {
@@ -141,7 +142,7 @@ fn put_sorted(dirs: &[u8], m: usize, spans: &mut [u32], out: &mut [u8], at: usiz
 // The first m directories: their count, and they in order.
 fn put_dirs(dirs: &[u8], m: usize, out: &mut [u8], at: usize) -> usize
     requires { ⌜ (m * 482 ≤ length (now dirs)) × (m ≤ 256) × (at < 2 ^ 60) ⌝ }
-    ensures dirs { λ r. ⌜ shown (now (out .exit)) r ≡ pours (dirsShown (dirsOf (now (dirs .entry)) m)) (shown (now (out .entry)) at) ⌝ }
+    ensures dirs { λ r. ⌜ Puts (dirsShown (dirsOf (now (dirs .entry)) m)) out at r ⌝ }
     ensures few { λ r. ⌜ r ≤ at + 200000 ⌝ }
 {
     let mut spans = no_spans();
@@ -154,10 +155,10 @@ fn put_dirs(dirs: &[u8], m: usize, out: &mut [u8], at: usize) -> usize
 // A pool: counter, rows, queue, directories.
 fn put_pool(nums: &[u64], names: &[u8], dirs: &[u8], pool: Pool, out: &mut [u8], at: usize) -> usize
     requires { ⌜ IsPool (bufs pool (now nums) (now names) (now dirs)) × (at < 2 ^ 59) ⌝ }
-    ensures pool { λ r. ⌜ shown (now (out .exit)) r ≡ pours (poolShown (view (bufs pool (now (nums .entry)) (now (names .entry)) (now (dirs .entry))))) (shown (now (out .entry)) at) ⌝ }
+    ensures pool { λ r. ⌜ Puts (poolShown (view (bufs pool (now (nums .entry)) (now (names .entry)) (now (dirs .entry))))) out at r ⌝ }
     ensures few { λ r. ⌜ r ≤ at + 300000 ⌝ }
 {
-    let cap = pool.rows;
+    let cap = pool.chosen.rows;
     let n = pool.held;
     let free = pool.free;
     let q = pool.queue;
@@ -179,7 +180,7 @@ pub fn put_record(
     at: usize,
 ) -> usize
     requires { ⌜ at < 2 ^ 58 ⌝ }
-    ensures record { λ r. ⌜ shown (now (out .exit)) r ≡ pours (recordShown (bufs pool (now (nums .entry)) (now (names .entry)) (now (dirs .entry)))) (shown (now (out .entry)) at) ⌝ }
+    ensures record { λ r. ⌜ Puts (recordShown (bufs pool (now (nums .entry)) (now (names .entry)) (now (dirs .entry)))) out at r ⌝ }
     ensures few { λ r. ⌜ r ≤ at + 400000 ⌝ }
 {
     if admit::pool_ok(nums, names, dirs, pool) {
@@ -194,7 +195,7 @@ pub fn put_record(
 // Numbers, as u32 each.
 fn put_lengths(phys: &[u64], out: &mut [u8], at: usize) -> usize
     requires { ⌜ at < 2 ^ 62 ⌝ }
-    ensures { λ r. ⌜ shown (now (out .exit)) r ≡ pours (cat (le 4) (now (phys .entry))) (shown (now (out .entry)) at) ⌝ }
+    ensures { λ r. ⌜ Puts (cat (le 4) (now (phys .entry))) out at r ⌝ }
     ensures few { λ r. ⌜ r ≤ at + length (now (phys .entry)) * 4 ⌝ }
 {
     let mut a = at;
@@ -209,7 +210,7 @@ fn put_lengths(phys: &[u64], out: &mut [u8], at: usize) -> usize
 // The plan's place, the physical lengths, and the bytes.
 pub fn put_device(bytes: &[u8], phys: &[u64], place: Place, out: &mut [u8], at: usize) -> usize
     requires { ⌜ at < 2 ^ 61 ⌝ }
-    ensures { λ r. ⌜ shown (now (out .exit)) r ≡ pours (deviceShown (dev (now (bytes .entry)) (now (phys .entry)) place)) (shown (now (out .entry)) at) ⌝ }
+    ensures { λ r. ⌜ Puts (deviceShown (dev (now (bytes .entry)) (now (phys .entry)) place)) out at r ⌝ }
 {
     let a = writer::put_le(out, at, 4, place.at as u64);
     let b = put_lengths(phys, out, a);

@@ -1,12 +1,13 @@
 -- Laws of output: what is put out in parts is put out as a whole.
-use Prim.Native.Nat.{ℕ, zero, suc, _+_}
+use Prim.Native.Nat.{ℕ, zero, suc, _+_, _<_, _≤_}
 use mathlib.Core.Path.{_≡_, refl, sym, ap, ap₂, _∙_}
 use mathlib.Core.List.{List, [], _∷_, _++_}
+use native.Mathlib.Numerals.{add-one}
 use native.Mathlib.Nat.{add-zero, zero-add}
 use native.Mathlib.Omega.{arith}
-use lib.ListN.{length, take, drop, set, length-append, length-set}
-use lib.Seq.{sets, take-nil, drop-nil, length-sets}
-use Rattle.lists.specs.Blocks.{sets-append}
+use lib.ListN.{length, getD, take, drop, set, length-append, length-set, drop-of-length-le}
+use lib.Seq.{sets, take-nil, drop-nil, length-sets, drop-cons}
+use Rattle.lists.specs.Blocks.{cat, sets-append}
 use Rattle.writer.specs.Writer.{Shown, shown, pours, poured}
 
 pub pours-none : (o : Shown) → pours [] o ≡ o
@@ -58,3 +59,16 @@ pours-then xs ys o e f = f ∙ ap (pours ys) e ∙ pours-append xs ys o
 pub length-poured : (xs : List ℕ) (o : Shown) → length (pours xs o .out) ≡ length (o .out)
 unfolding pours
 length-poured xs o = length-sets (o .out) (o .at) xs
+
+-- A loop that puts out what each element comes to: element k, and then the rest; and nothing behind the last.
+module _ {A : Type 0} (f : A → List ℕ) (xs : List A) (k : ℕ) where
+  pub cat-turn : (d : A) (o : Shown) {o′ : Shown} → k < length xs → o′ ≡ pours (f (getD xs k d)) o
+      → pours (cat f (drop (k + 1) xs)) o′ ≡ pours (cat f (drop k xs)) o
+  unfolding cat
+  cat-turn d o h e =
+      rw (add-one, drop-cons xs k d h)
+      (ap (pours (cat f (drop (suc k) xs))) e ∙ pours-append (f (getD xs k d)) (cat f (drop (suc k) xs)) o)
+
+  pub cat-end : (o : Shown) → length xs ≤ k → o ≡ pours (cat f (drop k xs)) o
+  unfolding cat
+  cat-end o h = rw (drop-of-length-le xs h) (sym (pours-none o))

@@ -1,7 +1,7 @@
 -- Carried by `dir-part`: the part lent is what the row spells.
 use mathlib.Core.Path.{ap, _∙_}
 use Rattle.dirs.specs.RowLaws.{dir-part, dir-short}
-use Rattle.admit.specs.Keys.{textKey}
+use Rattle.path.specs.Path.{textKey}
 use native.Mathlib.Omega.{arith}
 use borrow.Author.Needs.{needs}
 use Rattle.admit.proofs.dir_key.Statement.{statement}

@@ -3,7 +3,7 @@ use mathlib.Core.Path.{refl, _≡_}
 use Prim.Native.Nat.{ℕ, _≤_, _<_, _-_}
 use lib.ListN.{length, getD, length-set}
 use Rattle.dirs.specs.Rows.{dirAt}
-use Rattle.admit.specs.Keys.{textKey}
+use Rattle.path.specs.Path.{textKey}
 use Rattle.admit.proofs.Turns.{keys-more}
 use native.Mathlib.Omega.{arith}
 use Rattle.admit.proofs.dir_keys.Statement.{statement}

@@ -1,6 +1,6 @@
 -- Carried by `none-before`: where no key before it is the same, no directory is.
 use mathlib.Core.Path.{sym, ap, _∙_}
-use Rattle.admit.specs.Keys.{textKey}
+use Rattle.path.specs.Path.{textKey}
 use borrow.Author.Tests.{not-true}
 use Rattle.admit.proofs.Laws.{none-before, keys-fewer}
 use native.Mathlib.Omega.{arith}

@@ -1,5 +1,5 @@
--- `bridge::through` meets its contract: a walk of its MIR, by hand. The front of the local array of records and the local place are lent to the call, each for
--- a lifetime of its own, and come back. `went-through` says what that comes to.
+-- `bridge::through` meets its contract: a walk of its MIR, by hand. The front of the local array of records and the local place are lent to
+-- the call, each for a lifetime of its own, and come back. `went-through` says what that comes to.
 -- Assumes nothing.
 use mathlib.Core.Path.{_≡_, refl}
 use mathlib.Core.Bool.{true}
@@ -72,13 +72,13 @@ use Rattle.records.proofs.put_rows as put
 use Rattle.records.proofs.put_rows.Symbol as put-def
 use Rattle.records.proofs.put_rows.Symbol.{name as #records·put-rows}
 use Rattle.records.proofs.put_rows.Met as put-thm
-use Rattle.calls.specs.declared.Call.{Call}
-use Rattle.calls.specs.Calls.{replied, called}
-use Rattle.calls.proofs.Call as Ca
-use Rattle.calls.proofs.Call.Laws as Ca′
-use Rattle.calls.proofs.Reply as Re
-use Rattle.calls.proofs.Reply.Laws as Re′
-use Rattle.dispatch.specs.Dispatch.{callP}
+use Rattle.calls_gate.specs.declared.Call.{Call}
+use Rattle.calls_gate.specs.Replies.{replied}
+use Rattle.calls_gate.specs.Calls.{callP}
+use Rattle.calls_gate.proofs.Call as Ca
+use Rattle.calls_gate.proofs.Call.Laws as Ca′
+use Rattle.calls_gate.proofs.Reply as Re
+use Rattle.calls_gate.proofs.Reply.Laws as Re′
 use Rattle.places.proofs.Parts.{geometryT, geometryV, placeT, placeV}
 use Rattle.pool.proofs.Parts.{poolT, poolV, callT, callV, replyV, a-call}
 use Rattle.bridge.proofs.Went.{went-through}
@@ -216,7 +216,7 @@ module _ {M : Type 1} (𝓤 : URA M) (H : Heap 𝓤) (A : Atoms 𝓤) (W : Given
         use1 W (raw (alive 𝓤 H A inner.signature (κs .0, (κs .1 .0, (κs .1 .1 .0, (ν₃ ∷ [], (ν₂ ∷ [], (κs .1 .1 .1 .1 .0, (κs .1 .1 .1 .1 .1 .0, (κs .1 .1 .1 .1 .1 .1 .0, (κs .1 .1 .1 .1 .1 .1 .1 .0, (κs .1 .1 .1 .1 .1 .1 .1 .1 .0, tt)))))))))) (qs .0, (qs .1 .0, (qs .1 .1 .0, (fullShare, (fullShare, (qs .1 .1 .1 .1 .0, (qs .1 .1 .1 .1 .1 .0, (qs .1 .1 .1 .1 .1 .1 .0, (qs .1 .1 .1 .1 .1 .1 .1 .0, (qs .1 .1 .1 .1 .1 .1 .1 .1 .0, tt)))))))))))) (id⊢ 𝓤 _) $
         move ! (0 ∷ 1 ∷ []) $
         calls-to ! fm inner.ended (inner.clauses 𝓤 H A at-mem run) calls (((κs .0, (κs .1 .0, (κs .1 .1 .0, (ν₃ ∷ [], (ν₂ ∷ [], (κs .1 .1 .1 .1 .0, (κs .1 .1 .1 .1 .1 .0, (κs .1 .1 .1 .1 .1 .1 .0, (κs .1 .1 .1 .1 .1 .1 .1 .0, (κs .1 .1 .1 .1 .1 .1 .1 .1 .0, tt)))))))))), (qs .0, (qs .1 .0, (qs .1 .1 .0, (fullShare, (fullShare, (qs .1 .1 .1 .1 .0, (qs .1 .1 .1 .1 .1 .0, (qs .1 .1 .1 .1 .1 .1 .0, (qs .1 .1 .1 .1 .1 .1 .1 .0, (qs .1 .1 .1 .1 .1 .1 .1 .1 .0, tt)))))))))), tt, (bytes, (phys, (geometry, (plan, (to l16 γ₃ place, (to l15 γ₂ (take k xs), (names, (dirs, (pool, (call, (first, (second, (buf, tt))))))))))))), (slice-vals bytes, (slice-vals phys, (geometryV geometry ∷ [], (slice-vals plan, (vptr l16 0 ∷ [], (sliceVal (l15, 0) k ∷ [], (slice-vals names, (slice-vals dirs, (poolV pool ∷ [], (callV call ∷ [], (slice-vals first, (slice-vals second, (slice-vals buf, tt)))))))))))))), tt) (id⊢ 𝓤 _) replyV (LL.tells Re.the-type Re′.the-laws) (and-then ! (load ! (from ! (stop !)) (look ! 34 refl)) (and-then ! (load ! (from ! (stop !)) (look ! 30 refl)) (and-then ! (load ! (from ! (stop !)) (look ! 72 refl)) (and-then ! (load ! (from ! (stop !)) (look ! 70 refl)) (and-then ! (load ! (from ! (stop !)) (look ! 28 refl)) (and-then ! (load ! (from ! (stop !)) (look ! 24 refl)) (and-then ! (load ! (from ! (stop !)) (look ! 20 refl)) (and-then ! (load ! (from ! (stop !)) (look ! 16 refl)) (and-then ! (load ! (from ! (stop !)) (look ! 60 refl)) (and-then ! (load ! (from ! (stop !)) (look ! 58 refl)) (and-then ! (load ! (from ! (stop !)) (look ! 56 refl)) (and-then ! (load ! (from ! (stop !)) (look ! 54 refl)) (and-then ! (load ! (from ! (stop !)) (look ! 12 refl)) (no-more !)))))))))))))) (λ r ws is₂.
-        heard-both ! (called (replied r (ws .0) (ws .1 .0) (numsOf (ws .1 .1 .1 .1 .1 .0)) (ws .1 .1 .1 .1 .1 .1 .0) (ws .1 .1 .1 .1 .1 .1 .1 .0)) (ws .1 .1 .1 .1 .1 .1 .1 .1 .1 .1 .1 .1 .0) ≡ callP (plan .now) geometry call (first .now) (second .now) (buf .now) (lent (dev (bytes .now) (phys .now) place) (bufs pool (numsOf (take k xs)) (names .now) (dirs .now)))) (ws .1 .1 .1 .1 .0 ≡ r .place) (λ e _.
+        heard-both ! (replied r (ws .0) (ws .1 .0) (numsOf (ws .1 .1 .1 .1 .1 .0)) (ws .1 .1 .1 .1 .1 .1 .0) (ws .1 .1 .1 .1 .1 .1 .1 .0) (ws .1 .1 .1 .1 .1 .1 .1 .1 .1 .1 .1 .1 .0) ≡ callP (plan .now) geometry call (first .now) (second .now) (buf .now) (lent (dev (bytes .now) (phys .now) place) (bufs pool (numsOf (take k xs)) (names .now) (dirs .now)))) (ws .1 .1 .1 .1 .0 ≡ r .place) (λ e _.
         fsplit ! $ fsplit ! $ move ! (1 ∷ []) $ feqL ! (λ long0. move ! (1 ∷ []) $ fsplit ! $ fsplit ! $ move ! (1 ∷ []) $ feqL ! (λ long1. move ! (1 ∷ []) $ fsplit ! $ drop ! $ move ! (0 ∷ []) $ fsplit ! $ drop ! $ move ! (0 ∷ []) $ fsplit ! $ move ! (1 ∷ []) $
         fsplit ! $ fsplit ! $ move ! (1 ∷ []) $ feqL ! (λ long5. move ! (1 ∷ []) $ fsplit ! $ fsplit ! $ move ! (1 ∷ []) $ feqL ! (λ long6. move ! (1 ∷ []) $ fsplit ! $ fsplit ! $ move ! (1 ∷ []) $ feqL ! (λ long7. move ! (1 ∷ []) $ fsplit ! $ drop ! $
         move ! (0 ∷ []) $ fsplit ! $ drop ! $ move ! (0 ∷ []) $ fsplit ! $ drop ! $ move ! (0 ∷ []) $ fsplit ! $ drop ! $ move ! (0 ∷ []) $ fsplit ! $ fsplit ! $ move ! (1 ∷ []) $ feqL ! (λ long12. move ! (1 ∷ []) $ drop ! $ move ! (7 ∷ []) $

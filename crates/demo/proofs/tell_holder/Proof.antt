@@ -23,9 +23,49 @@ tell-holder-spec =
     (λ c κs. search needs)
     (λ c. search needs)
     (λ c κs. search needs)
-    (λ c. c .before .before .before .before .before .before .before .before .before .before .before .before .before .before .before .before .before .before .before .before .before .ask2 .kept .0 ∙ c .before .before .before .before .before .before .before .before .before .before .before .before .before .before .before .before .before .before .before .before .before .before .before .before .before .before .before .before .before .before .before .before .before .before .before .before .before .before .ask .kept .0)
-    (λ c. c .before .before .before .before .before .before .before .before .before .before .before .before .before .before .before .before .before .before .before .before .before .ask2 .kept .1 .0 ∙ c .before .before .before .before .before .before .before .before .before .before .before .before .before .before .before .before .before .before .before .before .before .before .before .before .before .before .before .before .before .before .before .before .before .before .before .before .before .before .ask .kept .1 .0)
-    (λ c. c .before .before .before .before .before .before .before .before .before .before .before .before .before .before .before .before .before .before .before .before .before .ask2 .kept .1 .1 .0 ∙ c .before .before .before .before .before .before .before .before .before .before .before .before .before .before .before .before .before .before .before .before .before .before .before .before .before .before .before .before .before .before .before .before .before .before .before .before .before .before .ask .kept .1 .1 .0)
-    (λ c. c .before .before .before .before .before .before .before .before .before .before .before .before .before .before .before .before .before .before .before .before .before .ask2 .kept .1 .1 .1 .0 ∙ c .before .before .before .before .before .before .before .before .before .before .before .before .before .before .before .before .before .before .before .before .before .before .before .before .before .before .before .before .before .before .before .before .before .before .before .before .before .before .ask .kept .1 .1 .1 .0)
-    (λ c. c .before .before .before .before .before .before .before .before .before .before .before .before .before .before .before .before .before .before .before .before .before .ask2 .kept .1 .1 .1 .1 .0 ∙ c .before .before .before .before .before .before .before .before .before .before .before .before .before .before .before .before .before .before .before .before .before .before .before .before .before .before .before .before .before .before .before .before .before .before .before .before .before .before .ask .kept .1 .1 .1 .1 .0)
+    (λ c.
+    let after-ask2-3 = c .before .before .before .before .before .before .before in
+    let after-ask2-2 = after-ask2-3 .before .before .before .before .before .before .before in
+    let after-ask2 = after-ask2-2 .before .before .before .before .before .before .before in
+    let at-ask2 = after-ask2 .before in
+    let after-ask-2 = at-ask2 .before .before .before .before .before .before .before in
+    let after-ask = after-ask-2 .before .before .before .before .before .before .before in
+    let at-ask = after-ask .before .before .before .before in
+    at-ask2 .ask2 .kept .0 ∙ at-ask .ask .kept .0)
+    (λ c.
+    let after-ask2-3 = c .before .before .before .before .before .before .before in
+    let after-ask2-2 = after-ask2-3 .before .before .before .before .before .before .before in
+    let after-ask2 = after-ask2-2 .before .before .before .before .before .before .before in
+    let at-ask2 = after-ask2 .before in
+    let after-ask-2 = at-ask2 .before .before .before .before .before .before .before in
+    let after-ask = after-ask-2 .before .before .before .before .before .before .before in
+    let at-ask = after-ask .before .before .before .before in
+    at-ask2 .ask2 .kept .1 .0 ∙ at-ask .ask .kept .1 .0)
+    (λ c.
+    let after-ask2-3 = c .before .before .before .before .before .before .before in
+    let after-ask2-2 = after-ask2-3 .before .before .before .before .before .before .before in
+    let after-ask2 = after-ask2-2 .before .before .before .before .before .before .before in
+    let at-ask2 = after-ask2 .before in
+    let after-ask-2 = at-ask2 .before .before .before .before .before .before .before in
+    let after-ask = after-ask-2 .before .before .before .before .before .before .before in
+    let at-ask = after-ask .before .before .before .before in
+    at-ask2 .ask2 .kept .1 .1 .0 ∙ at-ask .ask .kept .1 .1 .0)
+    (λ c.
+    let after-ask2-3 = c .before .before .before .before .before .before .before in
+    let after-ask2-2 = after-ask2-3 .before .before .before .before .before .before .before in
+    let after-ask2 = after-ask2-2 .before .before .before .before .before .before .before in
+    let at-ask2 = after-ask2 .before in
+    let after-ask-2 = at-ask2 .before .before .before .before .before .before .before in
+    let after-ask = after-ask-2 .before .before .before .before .before .before .before in
+    let at-ask = after-ask .before .before .before .before in
+    at-ask2 .ask2 .kept .1 .1 .1 .0 ∙ at-ask .ask .kept .1 .1 .1 .0)
+    (λ c.
+    let after-ask2-3 = c .before .before .before .before .before .before .before in
+    let after-ask2-2 = after-ask2-3 .before .before .before .before .before .before .before in
+    let after-ask2 = after-ask2-2 .before .before .before .before .before .before .before in
+    let at-ask2 = after-ask2 .before in
+    let after-ask-2 = at-ask2 .before .before .before .before .before .before .before in
+    let after-ask = after-ask-2 .before .before .before .before .before .before .before in
+    let at-ask = after-ask .before .before .before .before in
+    at-ask2 .ask2 .kept .1 .1 .1 .1 .0 ∙ at-ask .ask .kept .1 .1 .1 .1 .0)
     (λ c. search needs))

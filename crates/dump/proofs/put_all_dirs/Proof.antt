@@ -1,5 +1,6 @@
 -- The spans that were written are those of all directories: `dirs-front`.
-use Rattle.dump.proofs.Spans.{dirs-many, dirs-front}
+use Rattle.order.specs.AllDirs.{dirs-many}
+use Rattle.dump.proofs.Spans.{dirs-front}
 use native.Mathlib.Omega.{arith}
 use mathlib.Core.Path.{ap}
 use lib.ListN.{length, replicate}
@@ -21,7 +22,7 @@ slice-aggregate-put-sorted-dirs c =
     let at-all-dirs = c .before .before in
     let start = at-all-dirs .before .before .before .before in
     let f = dirs-front (start .args .m) (start .args .dirs .now) (start .pre .0) (replicate 256 0) _ (at-all-dirs .all-dirs .ensures) (start .pre .1) in
-    omega (arith, dirs-many (start .args .m) (start .args .dirs .now) (start .pre .0), ap length f)
+    omega (arith, dirs-many (start .args .dirs .now) (start .args .m) (start .pre .0), ap length f)
 
 put-sorted-dirs-requires : tie.Need-put-sorted-dirs-requires
 put-sorted-dirs-requires c κs =

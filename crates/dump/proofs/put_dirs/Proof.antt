@@ -4,11 +4,11 @@ use mathlib.Core.Path.{_≡_, refl, _∙_}
 use lib.ListN.{length, getD, drop}
 use Rattle.lists.specs.Blocks.{cat}
 use Rattle.writer.specs.Writer.{shown, pours}
-use Rattle.writer.specs.Laws.{after-pours}
+use Rattle.writer.specs.Laws.{after-pours, cat-turn, cat-end}
 use Rattle.order.specs.Spans.{spelled}
 use Rattle.order.specs.Laws.{inside-get}
 use Rattle.dump.specs.Dump.{dirLine}
-use Rattle.dump.proofs.Laws.{dir-few, cat-turn, cat-end}
+use Rattle.dump.proofs.Laws.{dir-few}
 use native.Mathlib.Omega.{arith}
 use Rattle.dump.proofs.put_dirs.Statement.{statement}
 use Rattle.dump.proofs.put_dirs.Tie as tie
@@ -51,7 +51,7 @@ loop-again c =
     let s = start .args .spans .now in (
       omega arith,
       omega (arith, after-pours _ _ (at-put-dir .put-dir .ensures), dir-few (start .args .dirs .now) (getD s (l .k) 0), l .inv .1),
-      cat-turn (λ x. dirLine (spelled (start .args .dirs .now) x)) s (l .k) _ (at-loop-test .loop-test .taken) (at-put-dir .put-dir .ensures) ∙ l .inv .2,
+      cat-turn (λ x. dirLine (spelled (start .args .dirs .now) x)) s (l .k) 0 _ (at-loop-test .loop-test .taken) (at-put-dir .put-dir .ensures) ∙ l .inv .2,
       at-put-dir .put-dir .kept .1 .1 .0 ∙ l .inv .3,
     )
 

@@ -5,10 +5,10 @@ use lib.ListN.{length, getD, drop}
 use Rattle.lists.specs.Blocks.{cat}
 use Rattle.rows.specs.Rows.{rowsOf}
 use Rattle.writer.specs.Writer.{shown, pours}
-use Rattle.writer.specs.Laws.{after-pours}
+use Rattle.writer.specs.Laws.{after-pours, cat-turn, cat-end}
 use Rattle.order.specs.Spans.{slotOf}
 use Rattle.dump.specs.Dump.{fileLine}
-use Rattle.dump.proofs.Laws.{file-few, cat-turn, cat-end, held-get}
+use Rattle.dump.proofs.Laws.{file-few, held-get}
 use native.Mathlib.Omega.{arith}
 use Rattle.dump.proofs.put_files.Statement.{statement}
 use Rattle.dump.proofs.put_files.Tie as tie
@@ -59,7 +59,7 @@ loop-again c =
     let e = at-put-file .put-file .ensures ∙ ap (λ (i : ℕ). pours (fileLine w i) o) (at-slot-of .slot-of .ensures) in (
       omega arith,
       omega (arith, after-pours _ _ e, file-few w (start .pre .0 .short) (slotOf (getD s (l .k) 0)), l .inv .1),
-      cat-turn (λ x. fileLine w (slotOf x)) s (l .k) _ (at-loop-test .loop-test .taken) e ∙ l .inv .2,
+      cat-turn (λ x. fileLine w (slotOf x)) s (l .k) 0 _ (at-loop-test .loop-test .taken) e ∙ l .inv .2,
       at-put-file .put-file .kept .1 .1 .1 .1 .1 .0 ∙ l .inv .3,
     )
 

@@ -13,9 +13,12 @@ register-ancestors-requires c κs = (pool-dirs _ (c .before .before .before .bef
 
 returns : tie.Need-returns
 returns c =
-    let r = c .before .before .before .before .before .before .before .before .bind-row .ensures in
-    let d = c .before .before .register-ancestors .ensures in
-    bind-is _ (c .before .before .before .before .before .before .before .before .before .before .before .before .before .before .before .pre .0 .0) _ _ _ _ _ _ _ _ _ (r .0) (r .1) (d .0) (d .1)
+    let at-register = c .before .before in
+    let at-bind = at-register .before .before .before .before .before .before in
+    let start = at-bind .before .before .before .before .before .before .before in
+    let r = at-bind .bind-row .ensures in
+    let d = at-register .register-ancestors .ensures in
+    bind-is _ (start .pre .0 .0) _ _ _ _ _ _ _ (r .0) (r .1) (d .0) (d .1)
 
 pub bind-spec : {M : Type 1} → statement M
 bind-spec =

@@ -4,6 +4,7 @@ use mathlib.Core.Path.{_≡_, refl, _∙_}
 use lib.ListN.{length}
 use Rattle.device.specs.Device.{dev}
 use Rattle.table.specs.State.{bufs}
+use Rattle.table.specs.Reads.{pool-reads}
 use Rattle.steps.specs.World.{lent, viewW}
 use Rattle.folders.proofs.Syncing.{Syncing, syncing-start, syncing-stop, syncing-more, syncing-done}
 use native.Mathlib.Omega.{arith}
@@ -51,7 +52,11 @@ returns c =
     syncing-stop _ _ _ _ _ _ _ (loop .inv .1) (loop-test .taken) _ _ (sync-one .ensures) (c .if1 .taken)
 
 add-i : tie.Need-add-i Inv-loop μ-loop
-add-i c = omega (arith, c .before .before .before .before .before .before .before .before .before .before .before .before .loop-test .taken)
+add-i c =
+    let at-sync = c .before .before .before .before .before .before in
+    let at-test = at-sync .before .before .before .before .before .before in
+    let r = pool-reads _ (at-test .before .loop .inv .1 .ready .pool) in
+    omega (arith, at-test .loop-test .taken, r .held, r .rows)
 
 loop-less : tie.Need-loop-less Inv-loop μ-loop
 loop-less c = omega (arith, c .before .before .before .before .before .before .before .before .before .before .before .before .loop-test .taken)

@@ -13,7 +13,9 @@ use Rattle.harness.proofs.header_decode.Statement.{statement}
 use Rattle.harness.proofs.header_decode.Tie as tie
 
 abbrev at-start : tie.After-decode → tie.Start
-at-start c = c .before .before .before .before .before .before .before .before .before .before
+at-start c =
+    let after-start-2 = c .before .before .before .before .before .before .before in
+    after-start-2 .before .before .before
 
 abbrev at-zeros : tie.After-decode → tie.After-zeros
 at-zeros c = c .before .before .before .before .before

@@ -12,8 +12,10 @@ returns c =
 
 returns-2 : tie.Need-returns-2
 returns-2 c =
-    let a = c .before .before .before .before .before .before .before .before .args in
-    c .before .before .spell .ensures ∙ normal-text (a .path .now) (a .out .now) (told (c .before .before .before .before .before .is-text .ensures) (c .before .before .before .before .if1 .left))
+    let at-is-text = c .before .before .before .before .before in
+    let a = at-is-text .before .before .before .args in
+    c .before .before .spell .ensures ∙ normal-text (a .path .now) (a .out .now)
+    (told (at-is-text .is-text .ensures) (c .before .before .before .before .if1 .left))
 
 pub path-normal-spec : {M : Type 1} → statement M
 path-normal-spec =

@@ -12,8 +12,10 @@ returns c =
 
 returns-2 : tie.Need-returns-2
 returns-2 c =
-    let a = c .before .before .before .before .before .before .before .before .args in
-    spelled-done (normal (a .path .now)) (a .out .now) (c .before .before .before .before .before .normal-len .ensures) (c .before .before .before .before .if1 .left) (c .before .before .normalize .ensures)
+    let at-normal-len = c .before .before .before .before .before in
+    let a = at-normal-len .before .before .before .args in
+    spelled-done (normal (a .path .now)) (a .out .now) (at-normal-len .normal-len .ensures) (c .before .before .before .before .if1 .left)
+    (c .before .before .normalize .ensures)
 
 pub spell-spec : {M : Type 1} → statement M
 spell-spec =

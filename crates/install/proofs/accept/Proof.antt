@@ -28,7 +28,7 @@ returns c =
     let at-if1 = at-unstage .before .before .before in
     let at-register-claims = at-if1 .before .before .before in
     let start = at-register-claims .before .before .before .before .before .before .before in
-    refused-eight (start .args .pool .rows) (start .args .pool .«dir_rows») (start .args .pool .held) (start .args .m) (start .args .pool .dirs) (start .args .counter) (start .args .losers) (three (start .args .nums .now) (start .args .names .now) (start .args .dirs .now)) (start .pre .0) (start .pre .1) _ _ (at-register-claims .register-claims .ensures .0) (at-register-claims .register-claims .ensures .1) (not-true _ (at-if1 .if1 .taken)) _ _ (at-unstage .unstage .ensures .0) (at-unstage .unstage .ensures .1)
+    refused-eight (start .args .pool .chosen .rows) (start .args .pool .chosen .«dir_rows») (start .args .pool .held) (start .args .m) (start .args .pool .dirs) (start .args .counter) (start .args .losers) (three (start .args .nums .now) (start .args .names .now) (start .args .dirs .now)) (start .pre .0) (start .pre .1) _ _ (at-register-claims .register-claims .ensures .0) (at-register-claims .register-claims .ensures .1) (not-true _ (at-if1 .if1 .taken)) _ _ (at-unstage .unstage .ensures .0) (at-unstage .unstage .ensures .1)
 
 sub-if2 : tie.Need-sub-if2
 sub-if2 c = search needs
@@ -38,7 +38,7 @@ clear-dirs-requires c κs =
     let at-if1 = c .before .before in
     let at-register-claims = at-if1 .before .before .before in
     let start = at-register-claims .before .before .before .before .before .before .before in
-    (found-flat (start .args .pool .rows) (start .args .pool .«dir_rows») (start .args .pool .held) (start .args .m) (start .args .pool .dirs) (start .args .counter) (start .args .losers) (three (start .args .nums .now) (start .args .names .now) (start .args .dirs .now)) (start .pre .0) (start .pre .1) _ _ (at-register-claims .register-claims .ensures .0) (at-register-claims .register-claims .ensures .1) (not-false _ (at-if1 .if1 .left)) .1, found-more (start .args .pool .rows) (start .args .pool .«dir_rows») (start .args .pool .held) (start .args .m) (start .args .pool .dirs) (start .args .counter) (start .args .losers) (three (start .args .nums .now) (start .args .names .now) (start .args .dirs .now)) (start .pre .0) (start .pre .1) _ _ (at-register-claims .register-claims .ensures .0) (at-register-claims .register-claims .ensures .1) (not-false _ (at-if1 .if1 .left)))
+    (found-flat (start .args .pool .chosen .rows) (start .args .pool .chosen .«dir_rows») (start .args .pool .held) (start .args .m) (start .args .pool .dirs) (start .args .counter) (start .args .losers) (three (start .args .nums .now) (start .args .names .now) (start .args .dirs .now)) (start .pre .0) (start .pre .1) _ _ (at-register-claims .register-claims .ensures .0) (at-register-claims .register-claims .ensures .1) (not-false _ (at-if1 .if1 .left)) .1, found-more (start .args .pool .chosen .rows) (start .args .pool .chosen .«dir_rows») (start .args .pool .held) (start .args .m) (start .args .pool .dirs) (start .args .counter) (start .args .losers) (three (start .args .nums .now) (start .args .names .now) (start .args .dirs .now)) (start .pre .0) (start .pre .1) _ _ (at-register-claims .register-claims .ensures .0) (at-register-claims .register-claims .ensures .1) (not-false _ (at-if1 .if1 .left)))
 
 unstage-requires-2 : tie.Need-unstage-requires-2
 unstage-requires-2 c κs = search needs
@@ -59,7 +59,7 @@ returns-2 c =
     let at-if1 = at-clear-dirs .before .before .before in
     let at-register-claims = at-if1 .before .before .before in
     let start = at-register-claims .before .before .before .before .before .before .before in
-    refused-nine (start .args .pool .rows) (start .args .pool .«dir_rows») (start .args .pool .held) (start .args .m) (start .args .pool .dirs) (start .args .counter) (start .args .losers) (three (start .args .nums .now) (start .args .names .now) (start .args .dirs .now)) (start .pre .0) (start .pre .1) _ _ (at-register-claims .register-claims .ensures .0) (at-register-claims .register-claims .ensures .1) (not-false _ (at-if1 .if1 .left)) _ _ _ (omega arith) (at-unstage2 .unstage2 .ensures .0) (at-unstage2 .unstage2 .ensures .1) (at-clear-dirs .clear-dirs .ensures)
+    refused-nine (start .args .pool .chosen .rows) (start .args .pool .chosen .«dir_rows») (start .args .pool .held) (start .args .m) (start .args .pool .dirs) (start .args .counter) (start .args .losers) (three (start .args .nums .now) (start .args .names .now) (start .args .dirs .now)) (start .pre .0) (start .pre .1) _ _ (at-register-claims .register-claims .ensures .0) (at-register-claims .register-claims .ensures .1) (not-false _ (at-if1 .if1 .left)) _ _ _ (omega arith) (at-unstage2 .unstage2 .ensures .0) (at-unstage2 .unstage2 .ensures .1) (at-clear-dirs .clear-dirs .ensures)
 
 same-length-7 : tie.Need-same-length-7
 same-length-7 c = search needs
@@ -75,7 +75,7 @@ returns-3 c =
     let at-if1 = c .before in
     let at-register-claims = at-if1 .before .before .before in
     let start = at-register-claims .before .before .before .before .before .before .before in
-    accepted (start .args .pool .rows) (start .args .pool .«dir_rows») (start .args .pool .held) (start .args .m) (start .args .pool .dirs) (start .args .counter) (start .args .losers) (three (start .args .nums .now) (start .args .names .now) (start .args .dirs .now)) (start .pre .0) (start .pre .1) _ _ (at-register-claims .register-claims .ensures .0) (at-register-claims .register-claims .ensures .1) (not-false _ (at-if1 .if1 .left)) (omega arith)
+    accepted (start .args .pool .chosen .rows) (start .args .pool .chosen .«dir_rows») (start .args .pool .held) (start .args .m) (start .args .pool .dirs) (start .args .counter) (start .args .losers) (three (start .args .nums .now) (start .args .names .now) (start .args .dirs .now)) (start .pre .0) (start .pre .1) _ _ (at-register-claims .register-claims .ensures .0) (at-register-claims .register-claims .ensures .1) (not-false _ (at-if1 .if1 .left)) (omega arith)
 
 pub accept-spec : {M : Type 1} → statement M
 accept-spec =

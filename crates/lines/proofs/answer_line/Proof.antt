@@ -1,10 +1,34 @@
 -- One law for each command: it lies in its line, and is what the line asks for.
-use mathlib.Core.Path.{refl}
 use native.Mathlib.Omega.{arith}
 use Rattle.lines.proofs.Laws.{create-fits, sync-fits, remove-fits, move-fits, create-line, sync-line, remove-line, move-line, dump-line, what-line}
 use borrow.Author.Needs.{needs}
 use Rattle.lines.proofs.answer_line.Statement.{statement}
 use Rattle.lines.proofs.answer_line.Tie as tie
+
+abbrev at-create : tie.After-slice-known12 → tie.After-create
+at-create c =
+    let at-nums = c .before .before .before .before .before .before .before in
+    at-nums .before .before .before .before .before
+
+abbrev at-sync : tie.After-slice-known18 → tie.After-sync
+at-sync c =
+    let at-nums2 = c .before .before .before .before .before .before .before in
+    at-nums2 .before .before .before .before .before
+
+abbrev at-remove : tie.After-slice-known24 → tie.After-end
+at-remove c =
+    let at-nums3 = c .before .before .before .before .before .before .before in
+    at-nums3 .before .before .before .before .before
+
+abbrev at-rename : tie.After-slice-known30 → tie.After-end2
+at-rename c =
+    let at-nums4 = c .before .before .before .before .before .before .before in
+    at-nums4 .before .before .before .before .before
+
+abbrev at-parse : tie.After-end-arg14 → tie.After-parse
+at-parse c =
+    let at-command4 = c .before .before .before .before .before .before .before in
+    at-command4 .before .before
 
 parse-requires : tie.Need-parse-requires
 parse-requires c κs = search needs
@@ -31,27 +55,29 @@ create-requires : tie.Need-create-requires
 create-requires c κs = search needs
 
 same-length : tie.Need-same-length
-same-length c = c .before .before .before .before .before .before .before .before .before .before .before .before .create .kept .0
+same-length c = at-create c .create .kept .0
 
 same-length-2 : tie.Need-same-length-2
-same-length-2 c = c .before .before .before .before .before .before .before .before .before .before .before .before .create .kept .1 .0
+same-length-2 c = at-create c .create .kept .1 .0
 
 same-length-3 : tie.Need-same-length-3
-same-length-3 c = c .before .before .before .before .before .before .before .before .before .before .before .before .create .kept .1 .1 .1 .0
+same-length-3 c = at-create c .create .kept .1 .1 .1 .0
 
 same-length-4 : tie.Need-same-length-4
-same-length-4 c = c .before .before .before .before .before .before .before .before .before .before .before .before .create .kept .1 .1 .1 .1 .0
+same-length-4 c = at-create c .create .kept .1 .1 .1 .1 .0
 
 same-length-5 : tie.Need-same-length-5
-same-length-5 c = c .before .before .before .before .before .before .before .before .before .before .before .before .create .kept .1 .1 .1 .1 .1 .0
+same-length-5 c = at-create c .create .kept .1 .1 .1 .1 .1 .0
 
 same-length-6 : tie.Need-same-length-6
-same-length-6 c = c .before .before .before .before .before .before .before .before .before .before .before .before .create .kept .1 .1 .1 .1 .1 .1 .1 .1 .0
+same-length-6 c = at-create c .create .kept .1 .1 .1 .1 .1 .1 .1 .1 .0
 
 returns : tie.Need-returns
 returns c =
-    let at-create = c .before .before .before .before .before .before .before .before .before .before .before .before in
-    let at-command = at-create .before .before .before .before .before .before .before .before .before in
+    let at-nums = c .before .before .before .before .before .before .before in
+    let at-create = at-nums .before .before .before .before .before in
+    let at-19 = at-create .before .before .before .before .before .before .before in
+    let at-command = at-19 .before .before in
     let at-parse = at-command .before .before in
     create-line _ _ (at-parse .parse .ensures) _ _ _ (at-command .command .given .1) (at-create .create .ensures)
 
@@ -77,142 +103,151 @@ sync-requires : tie.Need-sync-requires
 sync-requires c κs = search needs
 
 same-length-7 : tie.Need-same-length-7
-same-length-7 c = c .before .before .before .before .before .before .before .before .sync .kept .0
+same-length-7 c = at-sync c .sync .kept .0
 
 same-length-8 : tie.Need-same-length-8
-same-length-8 c = c .before .before .before .before .before .before .before .before .sync .kept .1 .0
+same-length-8 c = at-sync c .sync .kept .1 .0
 
 same-length-9 : tie.Need-same-length-9
-same-length-9 c = c .before .before .before .before .before .before .before .before .sync .kept .1 .1 .1 .0
+same-length-9 c = at-sync c .sync .kept .1 .1 .1 .0
 
 same-length-10 : tie.Need-same-length-10
-same-length-10 c = refl
+same-length-10 c = at-sync c .sync .kept .1 .1 .1 .1 .0
 
 same-length-11 : tie.Need-same-length-11
-same-length-11 c = refl
+same-length-11 c = at-sync c .sync .kept .1 .1 .1 .1 .1 .0
 
 same-length-12 : tie.Need-same-length-12
-same-length-12 c = c .before .before .before .before .before .before .before .before .sync .kept .1 .1 .1 .1 .1 .1 .1 .1 .0
+same-length-12 c = at-sync c .sync .kept .1 .1 .1 .1 .1 .1 .1 .1 .0
 
 returns-2 : tie.Need-returns-2
 returns-2 c =
-    let at-sync = c .before .before .before .before .before .before .before .before in
-    let at-command2 = at-sync .before .before .before .before .before .before .before .before .before in
+    let at-nums2 = c .before .before .before .before .before .before .before in
+    let at-sync = at-nums2 .before .before .before .before .before in
+    let at-19 = at-sync .before .before .before .before .before .before .before in
+    let at-command2 = at-19 .before .before in
     let at-parse = at-command2 .before .before in
     sync-line _ _ (at-parse .parse .ensures) _ _ _ (at-command2 .command2 .given .1) (at-sync .sync .ensures)
 
 enum-known-command-3 : tie.Need-enum-known-command-3
 enum-known-command-3 c = search needs
 
-sub-remove : tie.Need-sub-remove
-sub-remove c =
+sub-end : tie.Need-sub-end
+sub-end c =
     let at-command3 = c .before .before .before .before .before .before in
     let at-parse = at-command3 .before .before in
     remove-fits _ _ (at-parse .parse .ensures) _ (at-command3 .command3 .given .1)
 
-part-remove-start : tie.Need-part-remove-start
-part-remove-start c =
+part-end-start : tie.Need-part-end-start
+part-end-start c =
     let at-command3 = c .before .before .before .before .before .before in
     let at-parse = at-command3 .before .before in
     remove-fits _ _ (at-parse .parse .ensures) _ (at-command3 .command3 .given .1)
 
-part-remove-end : tie.Need-part-remove-end
-part-remove-end c = search needs
+part-end-end : tie.Need-part-end-end
+part-end-end c = search needs
 
-remove-requires : tie.Need-remove-requires
-remove-requires c κs = search needs
+slice-aggregate-end : tie.Need-slice-aggregate-end
+slice-aggregate-end c = search needs
+
+end-requires : tie.Need-end-requires
+end-requires c κs = search needs
 
 same-length-13 : tie.Need-same-length-13
-same-length-13 c = c .before .before .before .before .before .before .before .before .before .before .remove .kept .0
+same-length-13 c = at-remove c .end .kept .0
 
 same-length-14 : tie.Need-same-length-14
-same-length-14 c = c .before .before .before .before .before .before .before .before .before .before .remove .kept .1 .0
+same-length-14 c = at-remove c .end .kept .1 .0
 
 same-length-15 : tie.Need-same-length-15
-same-length-15 c = c .before .before .before .before .before .before .before .before .before .before .remove .kept .1 .1 .1 .0
+same-length-15 c = at-remove c .end .kept .1 .1 .1 .0
 
 same-length-16 : tie.Need-same-length-16
-same-length-16 c = c .before .before .before .before .before .before .before .before .before .before .remove .kept .1 .1 .1 .1 .0
+same-length-16 c = at-remove c .end .kept .1 .1 .1 .1 .0
 
 same-length-17 : tie.Need-same-length-17
-same-length-17 c = refl
+same-length-17 c = at-remove c .end .kept .1 .1 .1 .1 .1 .0
 
 same-length-18 : tie.Need-same-length-18
-same-length-18 c = c .before .before .before .before .before .before .before .before .before .before .remove .kept .1 .1 .1 .1 .1 .1 .1 .1 .0
+same-length-18 c = at-remove c .end .kept .1 .1 .1 .1 .1 .1 .1 .1 .1 .1 .0
 
 returns-3 : tie.Need-returns-3
 returns-3 c =
-    let at-remove = c .before .before .before .before .before .before .before .before .before .before in
-    let at-command3 = at-remove .before .before .before .before .before .before .before .before .before in
+    let at-nums3 = c .before .before .before .before .before .before .before in
+    let at-end = at-nums3 .before .before .before .before .before in
+    let at-19 = at-end .before .before .before .before .before .before .before in
+    let at-command3 = at-19 .before .before .before in
     let at-parse = at-command3 .before .before in
-    remove-line _ _ (at-parse .parse .ensures) _ _ _ (at-command3 .command3 .given .1) (at-remove .remove .ensures)
+    remove-line _ _ (at-parse .parse .ensures) _ _ _ (at-command3 .command3 .given .1) (at-end .end .ensures)
 
 enum-known-command-4 : tie.Need-enum-known-command-4
 enum-known-command-4 c = search needs
 
-sub-rename : tie.Need-sub-rename
-sub-rename c =
+sub-end-2 : tie.Need-sub-end-2
+sub-end-2 c =
     let at-command4 = c .before .before .before .before .before .before in
     let at-parse = at-command4 .before .before in
     move-fits _ _ (at-parse .parse .ensures) _ _ (at-command4 .command4 .given .1) .0
 
-part-rename-start : tie.Need-part-rename-start
-part-rename-start c =
+part-end-start-2 : tie.Need-part-end-start-2
+part-end-start-2 c =
     let at-command4 = c .before .before .before .before .before .before in
     let at-parse = at-command4 .before .before in
     move-fits _ _ (at-parse .parse .ensures) _ _ (at-command4 .command4 .given .1) .0
 
-part-rename-end : tie.Need-part-rename-end
-part-rename-end c =
+part-end-end-2 : tie.Need-part-end-end-2
+part-end-end-2 c =
     let at-command4 = c .before .before .before .before .before .before in
     let at-parse = at-command4 .before .before in
     omega (arith, move-fits _ _ (at-parse .parse .ensures) _ _ (at-command4 .command4 .given .1) .1)
 
-add-rename : tie.Need-add-rename
-add-rename c = omega (arith, move-fits _ _ (c .before .before .before .before .before .before .before .before .before .parse .ensures) _ _ (c .before .before .before .before .before .before .before .command4 .given .1) .1)
+add-end : tie.Need-add-end
+add-end c = omega (arith, move-fits _ _ (at-parse c .parse .ensures) _ _ (c .before .before .before .before .before .before .before .command4 .given .1) .1)
 
-sub-rename-2 : tie.Need-sub-rename-2
-sub-rename-2 c =
+sub-end-3 : tie.Need-sub-end-3
+sub-end-3 c =
     let at-command4 = c .before .before .before .before .before .before .before in
     let at-parse = at-command4 .before .before in
     omega (arith, move-fits _ _ (at-parse .parse .ensures) _ _ (at-command4 .command4 .given .1) .1)
 
-part-rename-start-2 : tie.Need-part-rename-start-2
-part-rename-start-2 c =
+part-end-start-3 : tie.Need-part-end-start-3
+part-end-start-3 c =
     let at-command4 = c .before .before .before .before .before .before .before in
     let at-parse = at-command4 .before .before in
     omega (arith, move-fits _ _ (at-parse .parse .ensures) _ _ (at-command4 .command4 .given .1) .1)
 
-part-rename-end-2 : tie.Need-part-rename-end-2
-part-rename-end-2 c = search needs
+part-end-end-3 : tie.Need-part-end-end-3
+part-end-end-3 c = search needs
 
-rename-requires : tie.Need-rename-requires
-rename-requires c κs = search needs
+end-requires-2 : tie.Need-end-requires-2
+end-requires-2 c κs = search needs
 
 same-length-19 : tie.Need-same-length-19
-same-length-19 c = c .before .before .before .before .before .before .before .before .before .before .before .before .rename .kept .0
+same-length-19 c = at-rename c .end2 .kept .0
 
 same-length-20 : tie.Need-same-length-20
-same-length-20 c = c .before .before .before .before .before .before .before .before .before .before .before .before .rename .kept .1 .0
+same-length-20 c = at-rename c .end2 .kept .1 .0
 
 same-length-21 : tie.Need-same-length-21
-same-length-21 c = c .before .before .before .before .before .before .before .before .before .before .before .before .rename .kept .1 .1 .1 .0
+same-length-21 c = at-rename c .end2 .kept .1 .1 .1 .0
 
 same-length-22 : tie.Need-same-length-22
-same-length-22 c = c .before .before .before .before .before .before .before .before .before .before .before .before .rename .kept .1 .1 .1 .1 .0
+same-length-22 c = at-rename c .end2 .kept .1 .1 .1 .1 .0
 
 same-length-23 : tie.Need-same-length-23
-same-length-23 c = c .before .before .before .before .before .before .before .before .before .before .before .before .rename .kept .1 .1 .1 .1 .1 .0
+same-length-23 c = at-rename c .end2 .kept .1 .1 .1 .1 .1 .0
 
 same-length-24 : tie.Need-same-length-24
-same-length-24 c = c .before .before .before .before .before .before .before .before .before .before .before .before .rename .kept .1 .1 .1 .1 .1 .1 .1 .1 .1 .0
+same-length-24 c = at-rename c .end2 .kept .1 .1 .1 .1 .1 .1 .1 .1 .1 .1 .0
 
 returns-4 : tie.Need-returns-4
 returns-4 c =
-    let at-rename = c .before .before .before .before .before .before .before .before .before .before .before .before in
-    let at-command4 = at-rename .before .before .before .before .before .before .before .before .before .before in
+    let at-nums4 = c .before .before .before .before .before .before .before in
+    let at-end2 = at-nums4 .before .before .before .before .before in
+    let at-19 = at-end2 .before .before .before .before .before .before .before in
+    let at-command4 = at-19 .before .before .before in
     let at-parse = at-command4 .before .before in
-    move-line _ _ (at-parse .parse .ensures) _ _ _ _ (at-command4 .command4 .given .1) (at-rename .rename .ensures)
+    move-line _ _ (at-parse .parse .ensures) _ _ _ _ (at-command4 .command4 .given .1) (at-end2 .end2 .ensures)
 
 enum-told : tie.Need-enum-told
 enum-told c = search needs
@@ -285,10 +320,11 @@ answer-line-spec =
     same-length-12
     returns-2
     enum-known-command-3
-    sub-remove
-    part-remove-start
-    part-remove-end
-    remove-requires
+    sub-end
+    part-end-start
+    part-end-end
+    slice-aggregate-end
+    end-requires
     same-length-13
     same-length-14
     same-length-15
@@ -297,14 +333,14 @@ answer-line-spec =
     same-length-18
     returns-3
     enum-known-command-4
-    sub-rename
-    part-rename-start
-    part-rename-end
-    add-rename
-    sub-rename-2
-    part-rename-start-2
-    part-rename-end-2
-    rename-requires
+    sub-end-2
+    part-end-start-2
+    part-end-end-2
+    add-end
+    sub-end-3
+    part-end-start-3
+    part-end-end-3
+    end-requires-2
     same-length-19
     same-length-20
     same-length-21

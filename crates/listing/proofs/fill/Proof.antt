@@ -28,7 +28,7 @@ same-length-3 c = search needs
 returns : tie.Need-returns
 returns c =
     let p = both-put _ _ _ _ _ _ (c .before .before .before .before .before .before .before .before .before .before .before .before .before .before .before .before .before .before .before .before .before .before .before .args .buf .now) (c .before .before .before .before .before .before .before .before .before .before .before .before .before .before .before .before .before .before .before .before .before .before .before .pre .0) (c .before .before .before .before .before .before .before .before .before .before .before .before .before .before .before .before .before .before .before .before .before .before .before .pre .1) (c .before .before .before .before .before .before .before .before .before .before .before .before .before .before .before .before .sort .ensures) (c .before .before .before .before .before .before .before .before .before .before .before .before .sort2 .ensures) (c .before .before .before .before .before .before .before .before .before .before .before .before .before .before .before .before .before .before .before .before .before .before .before .pre .2) _ _ (c .before .before .before .before .before .before .before .put-entries .ensures) _ _ (c .before .before .put-entries2 .ensures) in
-    (p .0, c .before .before .before .before .before .before .before .before .before .before .before .before .before .before .before .before .sort .ensures, c .before .before .before .before .before .before .before .before .before .before .before .before .sort2 .ensures, p .1)
+    (p .0, (c .before .before .before .before .before .before .before .before .before .before .before .before .before .before .before .before .sort .ensures, (c .before .before .before .before .before .before .before .before .before .before .before .before .sort2 .ensures, p .1)))
 
 pub fill-spec : {M : Type 1} → statement M
 fill-spec =

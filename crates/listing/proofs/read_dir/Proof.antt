@@ -98,7 +98,7 @@ returns-3 c =
     let f = c .before .before .before .before .before .before .before .before .before .before .before .before .before .before .before .before .before in
     let d = c .before .before .before .before .before .before .before .before .before .before .before .before .before .before in
     let s = c .before .before .before .before .before .before .before .before .before .before .before .before .before .before .before .before .before .before .before .before .before .before .before .before .before .before in
-    done _ (s .pre) _ (s .args .buf .now) (found f) _ _ _ _ (files f) (folders d) _ _ (c .before .before .before .before .before .before .before .before .before .before .before .size-of .ensures) (c .before .before .before .before .before .before .before .before .before .size-of2 .ensures) _ _ (c .before .before .before .before .before .before .before .before .if2 .left) (c .before .before .before .before .fill .ensures .0) (c .before .before .before .before .fill .ensures .3)
+    done _ (s .pre) _ (s .args .buf .now) (found f) _ _ _ _ (files f) (folders d) _ _ (c .before .before .before .before .before .before .before .before .before .before .before .size-of .ensures) (c .before .before .before .before .before .before .before .before .before .size-of2 .ensures) _ _ (c .before .before .before .before .before .before .before .before .if2 .left) (c .before .before .before .before .fill .ensures .0) (c .before .before .before .before .fill .ensures .1 .1 .1)
 
 pub read-dir-spec : {M : Type 1} → statement M
 read-dir-spec =

@@ -23,7 +23,7 @@ adopt-requires c κs =
     let at-zero-in = at-empty .before .before .before in
     let at-clear-rows = at-zero-in .before .before .before .before .before .before in
     let start = at-clear-rows .before .before .before .before .before .before .before .before .before in
-    mount-ready (start .args .plan .now) (start .args .geometry) (start .args .cap) (start .args .dir-cap) (start .args .k) (dev (start .args .bytes .now) (start .args .phys .now) (start .args .place)) (start .pre .0 .0) (start .pre .0 .1) (start .pre .0 .2) _ _ _ _ (at-empty .empty .ensures) (at-clear-rows .clear-rows .ensures .0 ∙ ap (λ (n : ℕ). replicate n 0) (start .pre .1 .0)) (at-clear-rows .clear-rows .ensures .1 ∙ ap (λ (n : ℕ). replicate n 0) (start .pre .1 .1)) (zeroed (start .args .dirs .now) _ _ _ (start .pre .1 .2) refl (at-zero-in .zero-in .ensures))
+    mount-ready (start .args .plan .now) (start .args .geometry) (start .args .chosen) (start .args .k) (dev (start .args .bytes .now) (start .args .phys .now) (start .args .place)) (start .pre .0 .0) (start .pre .0 .1) (start .pre .0 .2) _ _ _ _ (at-empty .empty .ensures) (at-clear-rows .clear-rows .ensures .0 ∙ ap (λ (n : ℕ). replicate n 0) (start .pre .1 .0)) (at-clear-rows .clear-rows .ensures .1 ∙ ap (λ (n : ℕ). replicate n 0) (start .pre .1 .1)) (zeroed (start .args .dirs .now) _ _ _ (start .pre .1 .2) refl (at-zero-in .zero-in .ensures))
 
 zero-requires : tie.Need-zero-requires
 zero-requires c κs = search needs
@@ -57,7 +57,7 @@ returns c =
     let at-zero-in = at-empty .before .before .before in
     let at-clear-rows = at-zero-in .before .before .before .before .before .before in
     let start = at-clear-rows .before .before .before .before .before .before .before .before .before in
-    mount-refused (start .args .plan .now) (start .args .geometry) (start .args .cap) (start .args .dir-cap) (start .args .k) (dev (start .args .bytes .now) (start .args .phys .now) (start .args .place)) (start .pre .0 .0) (start .pre .0 .1) (start .pre .0 .2) _ _ _ _ (at-empty .empty .ensures) (at-clear-rows .clear-rows .ensures .0 ∙ ap (λ (n : ℕ). replicate n 0) (start .pre .1 .0)) (at-clear-rows .clear-rows .ensures .1 ∙ ap (λ (n : ℕ). replicate n 0) (start .pre .1 .1)) (zeroed (start .args .dirs .now) _ _ _ (start .pre .1 .2) refl (at-zero-in .zero-in .ensures)) _ _ (at-adopt .adopt .ensures) (at-if1 .if1 .taken) _ (c .zero .ensures)
+    mount-refused (start .args .plan .now) (start .args .geometry) (start .args .chosen) (start .args .k) (dev (start .args .bytes .now) (start .args .phys .now) (start .args .place)) (start .pre .0 .0) (start .pre .0 .1) (start .pre .0 .2) _ _ _ _ (at-empty .empty .ensures) (at-clear-rows .clear-rows .ensures .0 ∙ ap (λ (n : ℕ). replicate n 0) (start .pre .1 .0)) (at-clear-rows .clear-rows .ensures .1 ∙ ap (λ (n : ℕ). replicate n 0) (start .pre .1 .1)) (zeroed (start .args .dirs .now) _ _ _ (start .pre .1 .2) refl (at-zero-in .zero-in .ensures)) _ _ (at-adopt .adopt .ensures) (at-if1 .if1 .taken) _ (c .zero .ensures)
 
 same-length-6 : tie.Need-same-length-6
 same-length-6 c = search needs
@@ -87,7 +87,7 @@ returns-2 c =
     let at-zero-in = at-empty .before .before .before in
     let at-clear-rows = at-zero-in .before .before .before .before .before .before in
     let start = at-clear-rows .before .before .before .before .before .before .before .before .before in
-    mount-done (start .args .plan .now) (start .args .geometry) (start .args .cap) (start .args .dir-cap) (start .args .k) (dev (start .args .bytes .now) (start .args .phys .now) (start .args .place)) (start .pre .0 .0) (start .pre .0 .1) (start .pre .0 .2) _ _ _ _ (at-empty .empty .ensures) (at-clear-rows .clear-rows .ensures .0 ∙ ap (λ (n : ℕ). replicate n 0) (start .pre .1 .0)) (at-clear-rows .clear-rows .ensures .1 ∙ ap (λ (n : ℕ). replicate n 0) (start .pre .1 .1)) (zeroed (start .args .dirs .now) _ _ _ (start .pre .1 .2) refl (at-zero-in .zero-in .ensures)) _ _ (at-adopt .adopt .ensures) (c .if1 .left)
+    mount-done (start .args .plan .now) (start .args .geometry) (start .args .chosen) (start .args .k) (dev (start .args .bytes .now) (start .args .phys .now) (start .args .place)) (start .pre .0 .0) (start .pre .0 .1) (start .pre .0 .2) _ _ _ _ (at-empty .empty .ensures) (at-clear-rows .clear-rows .ensures .0 ∙ ap (λ (n : ℕ). replicate n 0) (start .pre .1 .0)) (at-clear-rows .clear-rows .ensures .1 ∙ ap (λ (n : ℕ). replicate n 0) (start .pre .1 .1)) (zeroed (start .args .dirs .now) _ _ _ (start .pre .1 .2) refl (at-zero-in .zero-in .ensures)) _ _ (at-adopt .adopt .ensures) (c .if1 .left)
 
 pub mount-rows-spec : {M : Type 1} → statement M
 mount-rows-spec =

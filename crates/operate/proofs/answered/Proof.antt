@@ -2,7 +2,7 @@
 use mathlib.Core.Path.{sym, subst}
 use mathlib.Core.List.{List}
 use Prim.Native.Nat.{ℕ, _<_}
-use Rattle.calls.specs.Calls.{replied}
+use Rattle.calls_gate.specs.Replies.{replied}
 use Rattle.writer.specs.Writer.{shown}
 use Rattle.operate.proofs.Ways.{answered-is}
 use borrow.Author.Needs.{needs}
@@ -13,48 +13,58 @@ use Rattle.operate.proofs.answered.Lts as lts
 use Rattle.operate.proofs.ask.Reads as ask-reads
 use Rattle.operate.proofs.put_answer.Reads as put-answer-reads
 
--- src/lib.rt:198:9
 ask-requires : tie.Need-ask-requires
 ask-requires c κs = search needs
 
--- src/lib.rt:214:9
 put-answer-requires : tie.Need-put-answer-requires
-put-answer-requires c κs = (c .before .before .before .before .before .before .before .before .before .before .before .before .before .before .before .before .before .before .before .before .before .before .before .before .before .before .before .before .before .before .before .before .pre .1, subst (λ (k : ℕ). k < 65536) (sym (c .before .before .before .before .before .before .before .before .before .before .before .before .before .before .before .before .ask .kept .1 .1 .1 .1 .1 .1 .1 .1 .1 .1 .1 .0)) (c .before .before .before .before .before .before .before .before .before .before .before .before .before .before .before .before .before .before .before .before .before .before .before .before .before .before .before .before .before .before .before .before .pre .2), c .before .before .before .before .before .before .before .before .before .before .before .before .before .before .before .before .before .before .before .before .before .before .before .before .before .before .before .before .before .before .before .before .pre .3)
+put-answer-requires c κs =
+    let after-ask-2 = c .before .before .before .before .before .before .before in
+    let after-ask = after-ask-2 .before .before .before .before .before .before .before in
+    let at-ask = after-ask .before .before in
+    let after-start-2 = at-ask .before .before .before .before .before .before .before in
+    let after-start = after-start-2 .before .before .before .before .before .before .before in
+    let at-start = after-start .before .before in (
+      at-start .pre .1,
+      subst (λ (k : ℕ). k < 65536) (sym (at-ask .ask .kept .1 .1 .1 .1 .1 .1 .1 .1 .1 .1 .1 .0)) (at-start .pre .2),
+      at-start .pre .3,
+    )
 
--- src/lib.rt:178:1
 same-length : tie.Need-same-length
 same-length c = search needs
 
--- src/lib.rt:178:1
 same-length-2 : tie.Need-same-length-2
 same-length-2 c = search needs
 
--- src/lib.rt:178:1
 same-length-3 : tie.Need-same-length-3
 same-length-3 c = search needs
 
--- src/lib.rt:178:1
 same-length-4 : tie.Need-same-length-4
 same-length-4 c = search needs
 
--- src/lib.rt:178:1
 same-length-5 : tie.Need-same-length-5
 same-length-5 c = search needs
 
--- src/lib.rt:178:1
 same-length-6 : tie.Need-same-length-6
 same-length-6 c = search needs
 
--- src/lib.rt:178:1
 same-length-7 : tie.Need-same-length-7
 same-length-7 c = search needs
 
--- src/lib.rt:178:1
 returns : tie.Need-returns
 returns c =
-    let b : List ℕ = c .before .before .before .before .before .before .before .before .before .before .before .before .before .before .before .before .before .before .before .ask .last .1 .1 .1 .1 .1 .1 .1 .1 .1 .1 .1 .0 in
-    let w = replied (c .before .before .before .before .before .before .before .before .before .before .before .before .before .before .before .before .before .before .before .ask .result) (c .before .before .before .before .before .before .before .before .before .before .before .before .before .before .before .before .before .before .before .ask .last .0) (c .before .before .before .before .before .before .before .before .before .before .before .before .before .before .before .before .before .before .before .ask .last .1 .0) (c .before .before .before .before .before .before .before .before .before .before .before .before .before .before .before .before .before .before .before .ask .last .1 .1 .1 .1 .1 .0) (c .before .before .before .before .before .before .before .before .before .before .before .before .before .before .before .before .before .before .before .ask .last .1 .1 .1 .1 .1 .1 .0) (c .before .before .before .before .before .before .before .before .before .before .before .before .before .before .before .before .before .before .before .ask .last .1 .1 .1 .1 .1 .1 .1 .0) in
-    (answered-is _ _ _ (c .before .before .before .before .before .before .before .before .before .before .before .before .before .before .before .before .before .before .before .before .before .before .before .before .before .before .before .before .before .before .before .before .before .before .before .args .op) _ w b (c .before .before .before .before .before .before .before .before .before .before .before .before .before .before .before .before .before .before .before .before .before .before .before .before .before .before .before .before .before .before .before .before .before .before .before .args .buf .now) (shown (c .before .before .before .before .before .before .before .before .before .before .before .before .before .before .before .before .before .before .before .before .before .before .before .before .before .before .before .before .before .before .before .before .before .before .before .args .out .now) (c .before .before .before .before .before .before .before .before .before .before .before .before .before .before .before .before .before .before .before .before .before .before .before .before .before .before .before .before .before .before .before .before .before .before .before .args .at)) _ (c .before .before .before .before .before .before .before .before .before .before .before .before .before .before .before .before .before .before .before .ask .ensures) (c .before .before .put-answer .ensures .0), c .before .before .put-answer .ensures .1)
+    let after-ask-2 = c .before .before .before .before .before .before .before in
+    let after-ask = after-ask-2 .before .before .before .before .before .before .before in
+    let at-ask = after-ask .before .before .before .before .before in
+    let after-start-2 = at-ask .before .before .before .before .before .before .before in
+    let after-start = after-start-2 .before .before .before .before .before .before .before in
+    let at-start = after-start .before .before in
+    let b : List ℕ = at-ask .ask .last .1 .1 .1 .1 .1 .1 .1 .1 .1 .1 .1 .0 in
+    let w = replied (at-ask .ask .result) (at-ask .ask .last .0) (at-ask .ask .last .1 .0) (at-ask .ask .last .1 .1 .1 .1 .1 .0)
+    (at-ask .ask .last .1 .1 .1 .1 .1 .1 .0) (at-ask .ask .last .1 .1 .1 .1 .1 .1 .1 .0) b in (
+      answered-is _ _ _ (at-start .args .op) _ w (at-start .args .buf .now) (shown (at-start .args .out .now) (at-start .args .at)) _
+          (at-ask .ask .ensures) (c .before .before .put-answer .ensures .0),
+      c .before .before .put-answer .ensures .1,
+    )
 
 pub answered-spec : {M : Type 1} → statement M
 answered-spec =

@@ -8,65 +8,55 @@ use Rattle.operate.proofs.ask.Lts as lts
 use Rattle.bridge.proofs.on_numbers.Reads as on-numbers-reads
 use Rattle.operate.proofs.call_of.Reads as call-of-reads
 
--- src/lib.rt:128:9
 call-of-requires : tie.Need-call-of-requires
 call-of-requires c κs = search needs
 
--- src/lib.rt:146:9
 sub-on-numbers : tie.Need-sub-on-numbers
 sub-on-numbers c = search needs
 
--- src/lib.rt:146:9
 part-on-numbers-start : tie.Need-part-on-numbers-start
 part-on-numbers-start c = search needs
 
--- src/lib.rt:146:9
 part-on-numbers-end : tie.Need-part-on-numbers-end
 part-on-numbers-end c = search needs
 
--- src/lib.rt:147:9
 sub-on-numbers-2 : tie.Need-sub-on-numbers-2
 sub-on-numbers-2 c = search needs
 
--- src/lib.rt:147:9
 part-on-numbers-start-2 : tie.Need-part-on-numbers-start-2
 part-on-numbers-start-2 c = search needs
 
--- src/lib.rt:147:9
 part-on-numbers-end-2 : tie.Need-part-on-numbers-end-2
 part-on-numbers-end-2 c = search needs
 
--- src/lib.rt:135:5
 on-numbers-requires : tie.Need-on-numbers-requires
 on-numbers-requires c κs = search needs
 
--- src/lib.rt:111:1
 same-length : tie.Need-same-length
 same-length c = search needs
 
--- src/lib.rt:111:1
 same-length-2 : tie.Need-same-length-2
 same-length-2 c = search needs
 
--- src/lib.rt:111:1
 same-length-3 : tie.Need-same-length-3
 same-length-3 c = search needs
 
--- src/lib.rt:111:1
 same-length-4 : tie.Need-same-length-4
 same-length-4 c = search needs
 
--- src/lib.rt:111:1
 same-length-5 : tie.Need-same-length-5
 same-length-5 c = search needs
 
--- src/lib.rt:111:1
 same-length-6 : tie.Need-same-length-6
 same-length-6 c = search needs
 
--- src/lib.rt:111:1
 returns : tie.Need-returns
-returns c = asked _ _ _ _ _ _ _ _ _ (c .before .before .before .before .before .before .before .before .before .before .before .before .before .before .before .before .before .before .before .before .before .before .before .call-of .ensures) (c .before .before .before .before .before .before .before .before .before .before .before .before .on-numbers .ensures)
+returns c =
+    let after-on-numbers = c .before .before .before .before .before .before .before in
+    let at-on-numbers = after-on-numbers .before .before .before .before .before in
+    let after-call-of = at-on-numbers .before .before .before .before .before .before .before in
+    let at-call-of = after-call-of .before .before .before .before in
+    asked _ _ _ _ _ _ _ _ _ (at-call-of .call-of .ensures) (at-on-numbers .on-numbers .ensures)
 
 pub ask-spec : {M : Type 1} → statement M
 ask-spec =

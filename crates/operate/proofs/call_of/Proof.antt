@@ -9,35 +9,27 @@ use Rattle.operate.proofs.call_of.Lts as lts
 use Rattle.operate.proofs.on_handle.Reads as on-handle-reads
 use Rattle.operate.proofs.on_path.Reads as on-path-reads
 
--- src/lib.rt:93:9
 returns : tie.Need-returns
 returns c = is-mount _ (c .if1 .taken)
 
--- src/lib.rt:96:9
 returns-2 : tie.Need-returns-2
 returns-2 c = is-adopt _ (c .before .if1 .left) (c .if2 .taken)
 
--- src/lib.rt:99:9
 returns-3 : tie.Need-returns-3
 returns-3 c = is-open-write _ (c .before .before .before .if1 .left) (c .before .before .if2 .left) (c .before .if3 .taken)
 
--- src/lib.rt:102:9
 returns-4 : tie.Need-returns-4
 returns-4 c = is-open-read _ (c .before .before .before .if1 .left) (c .before .before .if2 .left) (c .before .if3 .left) (c .if4 .taken)
 
--- src/lib.rt:105:9
 on-handle-requires : tie.Need-on-handle-requires
 on-handle-requires c κs = search needs
 
--- src/lib.rt:105:9
 returns-5 : tie.Need-returns-5
 returns-5 c = c .on-handle .ensures ∙ is-on-handle _ (c .before .before .before .before .before .if1 .left) (c .before .before .before .before .if2 .left) (c .before .before .before .if3 .left) (c .before .before .if4 .left) (c .before .if5 .taken)
 
--- src/lib.rt:107:5
 on-path-requires : tie.Need-on-path-requires
 on-path-requires c κs = search needs
 
--- src/lib.rt:88:1
 returns-6 : tie.Need-returns-6
 returns-6 c = c .on-path .ensures ∙ is-on-path _ (c .before .before .before .before .before .if1 .left) (c .before .before .before .before .if2 .left) (c .before .before .before .if3 .left) (c .before .before .if4 .left) (c .before .if5 .left)
 

@@ -5,23 +5,18 @@ use Rattle.operate.proofs.on_handle.Tie as tie
 use Rattle.operate.proofs.on_handle.Reads as reads
 use Rattle.operate.proofs.on_handle.Lts as lts
 
--- src/lib.rt:39:9
 returns : tie.Need-returns
 returns c = is-read _ (c .if1 .taken)
 
--- src/lib.rt:46:9
 returns-2 : tie.Need-returns-2
 returns-2 c = is-write _ (c .before .if1 .left) (c .if2 .taken)
 
--- src/lib.rt:53:9
 returns-3 : tie.Need-returns-3
 returns-3 c = is-set-len _ (c .before .before .if1 .left) (c .before .if2 .left) (c .if3 .taken)
 
--- src/lib.rt:60:9
 returns-4 : tie.Need-returns-4
 returns-4 c = is-file-len _ (c .before .before .before .if1 .left) (c .before .before .if2 .left) (c .before .if3 .left) (c .if4 .taken)
 
--- src/lib.rt:34:1
 returns-5 : tie.Need-returns-5
 returns-5 c = is-sync _ (c .before .before .before .if1 .left) (c .before .before .if2 .left) (c .before .if3 .left) (c .if4 .left)
 

@@ -7,37 +7,30 @@ use Rattle.operate.proofs.on_path.Tie as tie
 use Rattle.operate.proofs.on_path.Reads as reads
 use Rattle.operate.proofs.on_path.Lts as lts
 
--- src/lib.rt:72:1
 returns : tie.Need-returns
 unfolding onPath
 returns c = sym (ap onPath (c .match .keys1))
 
--- src/lib.rt:72:1
 returns-2 : tie.Need-returns-2
 unfolding onPath
 returns-2 c = sym (ap onPath (c .match .keys2))
 
--- src/lib.rt:72:1
 returns-3 : tie.Need-returns-3
 unfolding onPath
 returns-3 c = sym (ap onPath (c .match .keys3))
 
--- src/lib.rt:72:1
 returns-4 : tie.Need-returns-4
 unfolding onPath
 returns-4 c = sym (ap onPath (c .match .keys4))
 
--- src/lib.rt:72:1
 returns-5 : tie.Need-returns-5
 unfolding onPath
 returns-5 c = sym (ap onPath (c .match .keys5))
 
--- src/lib.rt:72:1
 returns-6 : tie.Need-returns-6
 unfolding onPath
 returns-6 c = sym (ap onPath (c .match .keys6))
 
--- src/lib.rt:72:1
 returns-7 : tie.Need-returns-7
 returns-7 c = is-metadata _ (c .match .rest .0 .0 .0 .0 .0 .1) (c .match .rest .0 .0 .0 .0 .1) (c .match .rest .0 .0 .0 .1) (c .match .rest .0 .0 .1) (c .match .rest .0 .1) (c .match .rest .1)
 

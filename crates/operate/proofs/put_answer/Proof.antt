@@ -1,9 +1,9 @@
 -- Carried by `pours-then`: what is put out number by number is the whole answer. `near` keeps the place small.
 use mathlib.Core.Path.{_∙_, ap}
 use mathlib.Core.List.{List}
-use Prim.Native.Nat.{ℕ}
+use Prim.Native.Nat.{ℕ, _+_, _≤_}
 use Rattle.le.specs.Le.{le}
-use Rattle.reader.specs.Laws.{small}
+use Rattle.reader.specs.Laws.{Small, small}
 use Rattle.writer.specs.Writer.{shown, pours}
 use Rattle.writer.specs.Laws.{after-pours, pours-then}
 use Rattle.operate.proofs.Ways.{answer-is, near}
@@ -13,99 +13,136 @@ use Rattle.operate.proofs.put_answer.Statement.{statement}
 use Rattle.operate.proofs.put_answer.Tie as tie
 use Rattle.operate.proofs.put_answer.Reads as reads
 use Rattle.operate.proofs.put_answer.Lts as lts
-use Rattle.gate.proofs.number.Reads as number-reads
+use Rattle.calls_gate.proofs.number.Reads as number-reads
 use Rattle.operate.proofs.bit.Reads as bit-reads
 use Rattle.reader.proofs.form_of.Reads as form-of-reads
 use Rattle.writer.proofs.put_bytes.Reads as put-bytes-reads
 use Rattle.writer.proofs.put_le.Reads as put-le-reads
 
--- src/lib.rt:166:9
+-- ---- places: that of the numbers, and from each number that is put out to the one before it
+
+abbrev start : tie.After-put-le → tie.Start
+start c = c .before .before .before .before .before .before .before
+
+abbrev form : tie.After-put-le → tie.After-form-of
+form c = c .before .before .before
+
+abbrev one : tie.After-put-le2 → tie.After-put-le
+one c = c .before .before .before .before
+
+abbrev two : tie.After-put-le3 → tie.After-put-le2
+two c = c .before .before .before .before
+
+abbrev three : tie.After-put-le4 → tie.After-put-le3
+three c = c .before .before .before .before
+
+abbrev four : tie.After-put-le5 → tie.After-put-le4
+four c = c .before .before .before .before
+
+abbrev five : tie.After-put-le6 → tie.After-put-le5
+five c = c .before .before .before .before .before
+
+-- ---- each number takes at most 8 bytes
+
+narrow : (c : tie.After-put-le) → Small (form c .form-of .result)
+narrow c = small _ _ (form c .form-of .ensures)
+
+behind₁ : (c : tie.After-put-le) → c .put-le .result ≤ start c .args .at + 8
+behind₁ c = near 1 _ _ (omega arith) (c .put-le .ensures)
+
+behind₂ : (c : tie.After-put-le2) → c .put-le2 .result ≤ start (one c) .args .at + 16
+behind₂ c = omega (arith, behind₁ (one c), near _ _ _ (narrow (one c) .gives-slot) (c .put-le2 .ensures))
+
+behind₃ : (c : tie.After-put-le3) → c .put-le3 .result ≤ start (one (two c)) .args .at + 24
+behind₃ c = omega (arith, behind₂ (two c), near _ _ _ (narrow (one (two c)) .gives-generation) (c .put-le3 .ensures))
+
+behind₄ : (c : tie.After-put-le4) → c .put-le4 .result ≤ start (one (two (three c))) .args .at + 32
+behind₄ c = omega (arith, behind₃ (three c), near _ _ _ (narrow (one (two (three c))) .gives-len) (c .put-le4 .ensures))
+
+behind₅ : (c : tie.After-put-le5) → c .put-le5 .result ≤ start (one (two (three (four c)))) .args .at + 40
+behind₅ c = omega (arith, behind₄ (four c), near _ _ _ (narrow (one (two (three (four c)))) .gives-count) (c .put-le5 .ensures))
+
+behind₆ : (c : tie.After-put-le6) → c .put-le6 .result ≤ start (one (two (three (four (five c))))) .args .at + 48
+behind₆ c =
+    omega (arith, behind₅ (five c), near _ _ _ (narrow (one (two (three (four (five c))))) .gives-yes) (c .put-le6 .ensures))
+
+-- ---- what each call needs
+
 form-of-requires : tie.Need-form-of-requires
 form-of-requires c κs = search needs
 
--- src/lib.rt:168:40
 number-requires : tie.Need-number-requires
 number-requires c κs = search needs
 
--- src/lib.rt:168:40
 cast-put-le : tie.Need-cast-put-le
 cast-put-le c = search needs
 
--- src/lib.rt:168:9
 put-le-requires : tie.Need-put-le-requires
 put-le-requires c κs = search needs
 
--- src/lib.rt:169:9
 put-le-requires-2 : tie.Need-put-le-requires-2
 put-le-requires-2 c κs =
-    let f = c .before .before .before .before .before .before .form-of .result in
-    let m = small _ _ (c .before .before .before .before .before .before .form-of .ensures) in
-    let r = c .before .before .before .before .before .before .before .before .before .args .reply in
-    omega (arith, c .before .before .before .before .before .before .before .before .before .pre .2, m .gives-slot, near 1 _ _ (omega arith) (c .before .before .before .put-le .ensures))
+    let p : tie.After-put-le = c .before .before .before in
+    omega (arith, start p .pre .2, narrow p .gives-slot, behind₁ p)
 
--- src/lib.rt:170:9
 put-le-requires-3 : tie.Need-put-le-requires-3
 put-le-requires-3 c κs =
-    let f = c .before .before .before .before .before .before .before .before .before .before .form-of .result in
-    let m = small _ _ (c .before .before .before .before .before .before .before .before .before .before .form-of .ensures) in
-    let r = c .before .before .before .before .before .before .before .before .before .before .before .before .before .args .reply in
-    omega (arith, c .before .before .before .before .before .before .before .before .before .before .before .before .before .pre .2, m .gives-generation, near 1 _ _ (omega arith) (c .before .before .before .before .before .before .before .put-le .ensures), near (f .«gives_slot») (r .slot) _ (m .gives-slot) (c .before .before .before .put-le2 .ensures))
+    let p : tie.After-put-le2 = c .before .before .before in
+    omega (arith, start (one p) .pre .2, narrow (one p) .gives-generation, behind₂ p)
 
--- src/lib.rt:171:9
 put-le-requires-4 : tie.Need-put-le-requires-4
 put-le-requires-4 c κs =
-    let f = c .before .before .before .before .before .before .before .before .before .before .before .before .before .before .form-of .result in
-    let m = small _ _ (c .before .before .before .before .before .before .before .before .before .before .before .before .before .before .form-of .ensures) in
-    let r = c .before .before .before .before .before .before .before .before .before .before .before .before .before .before .before .before .before .args .reply in
-    omega (arith, c .before .before .before .before .before .before .before .before .before .before .before .before .before .before .before .before .before .pre .2, m .gives-len, near 1 _ _ (omega arith) (c .before .before .before .before .before .before .before .before .before .before .before .put-le .ensures), near (f .«gives_slot») (r .slot) _ (m .gives-slot) (c .before .before .before .before .before .before .before .put-le2 .ensures), near (f .«gives_generation») (r .generation) _ (m .gives-generation) (c .before .before .before .put-le3 .ensures))
+    let p : tie.After-put-le3 = c .before .before .before in
+    omega (arith, start (one (two p)) .pre .2, narrow (one (two p)) .gives-len, behind₃ p)
 
--- src/lib.rt:172:9
 put-le-requires-5 : tie.Need-put-le-requires-5
 put-le-requires-5 c κs =
-    let f = c .before .before .before .before .before .before .before .before .before .before .before .before .before .before .before .before .before .before .form-of .result in
-    let m = small _ _ (c .before .before .before .before .before .before .before .before .before .before .before .before .before .before .before .before .before .before .form-of .ensures) in
-    let r = c .before .before .before .before .before .before .before .before .before .before .before .before .before .before .before .before .before .before .before .before .before .args .reply in
-    omega (arith, c .before .before .before .before .before .before .before .before .before .before .before .before .before .before .before .before .before .before .before .before .before .pre .2, m .gives-count, near 1 _ _ (omega arith) (c .before .before .before .before .before .before .before .before .before .before .before .before .before .before .before .put-le .ensures), near (f .«gives_slot») (r .slot) _ (m .gives-slot) (c .before .before .before .before .before .before .before .before .before .before .before .put-le2 .ensures), near (f .«gives_generation») (r .generation) _ (m .gives-generation) (c .before .before .before .before .before .before .before .put-le3 .ensures), near (f .«gives_len») (r .len) _ (m .gives-len) (c .before .before .before .put-le4 .ensures))
+    let p : tie.After-put-le4 = c .before .before .before in
+    omega (arith, start (one (two (three p))) .pre .2, narrow (one (two (three p))) .gives-count, behind₄ p)
 
--- src/lib.rt:173:52
 bit-requires : tie.Need-bit-requires
 bit-requires c κs = search needs
 
--- src/lib.rt:173:9
 put-le-requires-6 : tie.Need-put-le-requires-6
 put-le-requires-6 c κs =
-    let f = c .before .before .before .before .before .before .before .before .before .before .before .before .before .before .before .before .before .before .before .before .before .before .before .form-of .result in
-    let m = small _ _ (c .before .before .before .before .before .before .before .before .before .before .before .before .before .before .before .before .before .before .before .before .before .before .before .form-of .ensures) in
-    let r = c .before .before .before .before .before .before .before .before .before .before .before .before .before .before .before .before .before .before .before .before .before .before .before .before .before .before .args .reply in
-    omega (arith, c .before .before .before .before .before .before .before .before .before .before .before .before .before .before .before .before .before .before .before .before .before .before .before .before .before .before .pre .2, m .gives-yes, near 1 _ _ (omega arith) (c .before .before .before .before .before .before .before .before .before .before .before .before .before .before .before .before .before .before .before .before .put-le .ensures), near (f .«gives_slot») (r .slot) _ (m .gives-slot) (c .before .before .before .before .before .before .before .before .before .before .before .before .before .before .before .before .put-le2 .ensures), near (f .«gives_generation») (r .generation) _ (m .gives-generation) (c .before .before .before .before .before .before .before .before .before .before .before .before .put-le3 .ensures), near (f .«gives_len») (r .len) _ (m .gives-len) (c .before .before .before .before .before .before .before .before .put-le4 .ensures), near (f .«gives_count») (r .count) _ (m .gives-count) (c .before .before .before .before .put-le5 .ensures))
+    let p : tie.After-put-le5 = c .before .before .before .before in
+    omega (arith, start (one (two (three (four p)))) .pre .2, narrow (one (two (three (four p)))) .gives-yes, behind₅ p)
 
--- src/lib.rt:174:5
 put-bytes-requires : tie.Need-put-bytes-requires
 put-bytes-requires c κs =
-    let f = c .before .before .before .before .before .before .before .before .before .before .before .before .before .before .before .before .before .before .before .before .before .before .before .before .before .before .before .form-of .result in
-    let m = small _ _ (c .before .before .before .before .before .before .before .before .before .before .before .before .before .before .before .before .before .before .before .before .before .before .before .before .before .before .before .form-of .ensures) in
-    let r = c .before .before .before .before .before .before .before .before .before .before .before .before .before .before .before .before .before .before .before .before .before .before .before .before .before .before .before .before .before .before .args .reply in
-    omega (arith, c .before .before .before .before .before .before .before .before .before .before .before .before .before .before .before .before .before .before .before .before .before .before .before .before .before .before .before .before .before .before .pre .1, c .before .before .before .before .before .before .before .before .before .before .before .before .before .before .before .before .before .before .before .before .before .before .before .before .before .before .before .before .before .before .pre .2, near 1 _ _ (omega arith) (c .before .before .before .before .before .before .before .before .before .before .before .before .before .before .before .before .before .before .before .before .before .before .before .before .put-le .ensures), near (f .«gives_slot») (r .slot) _ (m .gives-slot) (c .before .before .before .before .before .before .before .before .before .before .before .before .before .before .before .before .before .before .before .before .put-le2 .ensures), near (f .«gives_generation») (r .generation) _ (m .gives-generation) (c .before .before .before .before .before .before .before .before .before .before .before .before .before .before .before .before .put-le3 .ensures), near (f .«gives_len») (r .len) _ (m .gives-len) (c .before .before .before .before .before .before .before .before .before .before .before .before .put-le4 .ensures), near (f .«gives_count») (r .count) _ (m .gives-count) (c .before .before .before .before .before .before .before .before .put-le5 .ensures), near (f .«gives_yes») (c .before .before .before .before .bit .result) _ (m .gives-yes) (c .before .before .before .put-le6 .ensures))
+    let p : tie.After-put-le6 = c .before .before .before in
+    let a = start (one (two (three (four (five p))))) in
+    omega (arith, a .pre .1, a .pre .2, behind₆ p)
 
--- src/lib.rt:161:1
 same-length : tie.Need-same-length
 same-length c = search needs
 
--- src/lib.rt:161:1
+-- ---- the answer
+
 returns : tie.Need-returns
 returns c =
-    let f = c .before .before .before .before .before .before .before .before .before .before .before .before .before .before .before .before .before .before .before .before .before .before .before .before .before .before .before .before .before .before .form-of .result in
-    let m = small _ _ (c .before .before .before .before .before .before .before .before .before .before .before .before .before .before .before .before .before .before .before .before .before .before .before .before .before .before .before .before .before .before .form-of .ensures) in
-    let r = c .before .before .before .before .before .before .before .before .before .before .before .before .before .before .before .before .before .before .before .before .before .before .before .before .before .before .before .before .before .before .before .before .before .args .reply in
-    let o = shown (c .before .before .before .before .before .before .before .before .before .before .before .before .before .before .before .before .before .before .before .before .before .before .before .before .before .before .before .before .before .before .before .before .before .args .out .now) (c .before .before .before .before .before .before .before .before .before .before .before .before .before .before .before .before .before .before .before .before .before .before .before .before .before .before .before .before .before .before .before .before .before .args .at) in
-    let buf : List ℕ = c .before .before .before .before .before .before .before .before .before .before .before .before .before .before .before .before .before .before .before .before .before .before .before .before .before .before .before .before .before .before .before .before .before .args .buf .now in
-    let e₁ = pours-then (le 1 (c .before .before .before .before .before .before .before .before .before .before .before .before .before .before .before .before .before .before .before .before .before .before .before .before .before .before .before .before .number .result)) (le (f .«gives_slot») (r .slot)) o (c .before .before .before .before .before .before .before .before .before .before .before .before .before .before .before .before .before .before .before .before .before .before .before .before .before .before .before .put-le .ensures) (c .before .before .before .before .before .before .before .before .before .before .before .before .before .before .before .before .before .before .before .before .before .before .before .put-le2 .ensures) in
-    let e₂ = pours-then _ (le (f .«gives_generation») (r .generation)) o e₁ (c .before .before .before .before .before .before .before .before .before .before .before .before .before .before .before .before .before .before .before .put-le3 .ensures) in
-    let e₃ = pours-then _ (le (f .«gives_len») (r .len)) o e₂ (c .before .before .before .before .before .before .before .before .before .before .before .before .before .before .before .put-le4 .ensures) in
-    let e₄ = pours-then _ (le (f .«gives_count») (r .count)) o e₃ (c .before .before .before .before .before .before .before .before .before .before .before .put-le5 .ensures) in
-    let e₅ = pours-then _ (le (f .«gives_yes») (c .before .before .before .before .before .before .before .bit .result)) o e₄ (c .before .before .before .before .before .before .put-le6 .ensures) in (
-      pours-then _ buf o e₅ (c .before .before .put-bytes .ensures) ∙ ap (λ (t : List ℕ). pours t o) (answer-is (c .before .before .before .before .before .before .before .before .before .before .before .before .before .before .before .before .before .before .before .before .before .before .before .before .before .before .before .before .before .before .before .before .before .args .op) f r (c .before .before .before .before .before .before .before .before .before .before .before .before .before .before .before .before .before .before .before .before .before .before .before .before .before .before .before .before .number .result) (c .before .before .before .before .before .before .before .bit .result) buf (c .before .before .before .before .before .before .before .before .before .before .before .before .before .before .before .before .before .before .before .before .before .before .before .before .before .before .before .before .before .before .form-of .ensures) (c .before .before .before .before .before .before .before .before .before .before .before .before .before .before .before .before .before .before .before .before .before .before .before .before .before .before .before .before .number .ensures) (c .before .before .before .before .before .before .before .bit .ensures)),
-      omega (arith, c .before .before .before .before .before .before .before .before .before .before .before .before .before .before .before .before .before .before .before .before .before .before .before .before .before .before .before .before .before .before .before .before .before .pre .1, near 1 _ _ (omega arith) (c .before .before .before .before .before .before .before .before .before .before .before .before .before .before .before .before .before .before .before .before .before .before .before .before .before .before .before .put-le .ensures), near (f .«gives_slot») (r .slot) _ (m .gives-slot) (c .before .before .before .before .before .before .before .before .before .before .before .before .before .before .before .before .before .before .before .before .before .before .before .put-le2 .ensures), near (f .«gives_generation») (r .generation) _ (m .gives-generation) (c .before .before .before .before .before .before .before .before .before .before .before .before .before .before .before .before .before .before .before .put-le3 .ensures), near (f .«gives_len») (r .len) _ (m .gives-len) (c .before .before .before .before .before .before .before .before .before .before .before .before .before .before .before .put-le4 .ensures), near (f .«gives_count») (r .count) _ (m .gives-count) (c .before .before .before .before .before .before .before .before .before .before .before .put-le5 .ensures), near (f .«gives_yes») (c .before .before .before .before .before .before .before .bit .result) _ (m .gives-yes) (c .before .before .before .before .before .before .put-le6 .ensures), after-pours buf _ (c .before .before .put-bytes .ensures)),
+    let p₆ : tie.After-put-le6 = c .before .before .before .before .before .before in
+    let p₅ = five p₆ in
+    let p₄ = four p₅ in
+    let p₃ = three p₄ in
+    let p₂ = two p₃ in
+    let p₁ = one p₂ in
+    let a = start p₁ in
+    let f = form p₁ .form-of .result in
+    let t = a .args .reply .told in
+    let n = p₁ .before .number in
+    let b = p₆ .before .bit in
+    let o = shown (a .args .out .now) (a .args .at) in
+    let buf : List ℕ = a .args .buf .now in
+    let put-bytes = c .before .before .put-bytes in
+    let e₂ = pours-then (le 1 (n .result)) (le (f .«gives_slot») (t .slot)) o (p₁ .put-le .ensures) (p₂ .put-le2 .ensures) in
+    let e₃ = pours-then _ (le (f .«gives_generation») (t .generation)) o e₂ (p₃ .put-le3 .ensures) in
+    let e₄ = pours-then _ (le (f .«gives_len») (t .len)) o e₃ (p₄ .put-le4 .ensures) in
+    let e₅ = pours-then _ (le (f .«gives_count») (t .count)) o e₄ (p₅ .put-le5 .ensures) in
+    let e₆ = pours-then _ (le (f .«gives_yes») (b .result)) o e₅ (p₆ .put-le6 .ensures) in
+    let whole = answer-is (a .args .op) f (a .args .reply) (n .result) (b .result) buf (form p₁ .form-of .ensures) (n .ensures) (b .ensures) in (
+      pours-then _ buf o e₆ (put-bytes .ensures) ∙ ap (λ (x : List ℕ). pours x o) whole,
+      omega (arith, a .pre .1, behind₆ p₆, after-pours buf _ (put-bytes .ensures)),
     )
 
 pub put-answer-spec : {M : Type 1} → statement M

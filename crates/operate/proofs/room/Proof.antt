@@ -7,15 +7,12 @@ use Rattle.operate.proofs.room.Reads as reads
 use Rattle.operate.proofs.room.Lts as lts
 use Rattle.reader.proofs.form_of.Reads as form-of-reads
 
--- src/lib.rt:182:9
 form-of-requires : tie.Need-form-of-requires
 form-of-requires c κs = search needs
 
--- src/lib.rt:184:9
 returns : tie.Need-returns
 returns c = room-is _ _ (c .before .before .form-of .ensures) (c .if1 .taken)
 
--- src/lib.rt:178:1
 returns-2 : tie.Need-returns-2
 returns-2 c = no-room _ _ (c .before .before .form-of .ensures) (c .if1 .left)
 

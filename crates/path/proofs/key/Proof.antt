@@ -1,5 +1,4 @@
 -- The last component carries the key: `key-is`.
-use mathlib.Core.Path.{refl}
 use Rattle.path.proofs.Keys.{key-is}
 use borrow.Author.Needs.{needs}
 use Rattle.path.proofs.key.Statement.{statement}
@@ -8,48 +7,20 @@ use Rattle.path.proofs.key.Tie as tie
 last-requires : tie.Need-last-requires
 last-requires c κs = search needs
 
-sub-tail-number : tie.Need-sub-tail-number
-sub-tail-number c = search needs
+sub-text-key : tie.Need-sub-text-key
+sub-text-key c = search needs
 
-part-tail-number-start : tie.Need-part-tail-number-start
-part-tail-number-start c = search needs
+part-text-key-start : tie.Need-part-text-key-start
+part-text-key-start c = search needs
 
-part-tail-number-end : tie.Need-part-tail-number-end
-part-tail-number-end c = search needs
+part-text-key-end : tie.Need-part-text-key-end
+part-text-key-end c = search needs
 
-tail-number-requires : tie.Need-tail-number-requires
-tail-number-requires c κs = search needs
-
-sub-n : tie.Need-sub-n
-sub-n c = search needs
-
-mul-result : tie.Need-mul-result
-mul-result c = search needs
-
-add-result : tie.Need-add-result
-add-result c = search needs
-
-add-result-2 : tie.Need-add-result-2
-add-result-2 c = search needs
-
-cast-result : tie.Need-cast-result
-cast-result c = search needs
+text-key-requires : tie.Need-text-key-requires
+text-key-requires c κs = search needs
 
 returns : tie.Need-returns
-returns c = key-is _ _ _ _ _ (c .before .before .last .ensures) (c .tail-number .ensures) refl
+returns c = key-is _ _ _ _ (c .before .before .last .ensures) (c .text-key .ensures)
 
 pub key-spec : {M : Type 1} → statement M
-key-spec =
-    tie.close
-    (tie.spec
-    last-requires
-    sub-tail-number
-    part-tail-number-start
-    part-tail-number-end
-    tail-number-requires
-    sub-n
-    mul-result
-    add-result
-    add-result-2
-    cast-result
-    returns)
+key-spec = tie.close (tie.spec last-requires sub-text-key part-text-key-start part-text-key-end text-key-requires returns)

@@ -1,5 +1,5 @@
 -- `places::put_block` meets its contract: a walk of its MIR, by hand. The place is a local, lent to each of the two thin calls for a lifetime of its own.
--- `put-stopped` and `put-done` of crate steps say what the two ways out come to.
+-- `put-stopped` and `put-done` say what the two ways out come to.
 -- Assumes nothing.
 use mathlib.Core.Path.{_≡_, refl, subst}
 use mathlib.Core.Bool.{Bool, true, false, not}
@@ -51,7 +51,7 @@ use Rattle.device.proofs.Place as P
 use Rattle.device.proofs.Place.Laws as P′
 use Rattle.device.proofs.Geometry as G
 use Rattle.device.proofs.Geometry.Laws as G′
-use Rattle.steps.proofs.Laws.{put-stopped, put-done}
+use Rattle.places.proofs.Laws.{put-stopped, put-done}
 use Rattle.places.proofs.Parts.{placeT, placeV, geometryT, geometryV, blockVs, block-tells, a-place, a-geometry, a-block}
 use Rattle.places.proofs.header_write as write
 use Rattle.places.proofs.header_write.Symbol as write-def
@@ -166,7 +166,7 @@ module _ {M : Type 1} (𝓤 : URA M) (H : Heap 𝓤) (A : Atoms 𝓤) (W : Given
         a-place ! (ws .1 .1 .1 .1 .0) g $ nothing ! $ nothing ! $ fjoin ! $ nothing ! $ fjoin ! $ nothing ! $ fjoin ! $ nothing ! $ fjoin ! $ nothing ! $ fjoin ! $ move ! (4 ∷ 0 ∷ []) $ fjoin ! $ move ! (3 ∷ 0 ∷ []) $ fjoin ! $ nothing ! $ move ! (6 ∷ 0 ∷ []) $
         join ! $ move ! (5 ∷ 0 ∷ []) $ join ! $ move ! (4 ∷ 0 ∷ []) $ join ! $ keep ! (0 ∷ 1 ∷ 2 ∷ []) $
         by ! (ends 𝓤 H A W outer.ended stayed (outer.clauses 𝓤 H A at-mem run) ((κs, qs, bounds, a, vals), tt) (placeV (ws .1 .1 .1 .1 .0)) (ws .1 .1 .1 .1 .0) (ws .0, (ws .1 .0, (tt, (tt, (tt, (tt, (tt, tt))))))) (long-bytes, (long-phys, (tt, (tt, (tt, (tt, (tt, tt)))))))
-        (shows-both 𝓤 (put-stopped (plan .now) geometry slot (dev (bytes .now) (phys .now) place) (ws .0) (ws .1 .0) (ws .1 .1 .1 .1 .0) block block refl e (stopped (ws .1 .1 .1 .1 .0 .last) test)) kept)))
+        (shows-both 𝓤 (put-stopped (plan .now) geometry slot (dev (bytes .now) (phys .now) place) (ws .0) (ws .1 .0) (ws .1 .1 .1 .1 .0) block e (stopped (ws .1 .1 .1 .1 .0 .last) test)) kept)))
         -- the flush
         (λ test. skips ! $ exec ! C Λ (En l0 l1 l2 l3 l4 l5 l6 l7 l8 l9 l10 l11 l12 l13 l14 l15 l16 l17) body.t-11 (atRet (En l0 l1 l2 l3 l4 l5 l6 l7 l8 l9 l10 l11 l12 l13 l14 l15 l16 l17) Post) $
         assigns ! (addr ! (from ! (stop !))) (from ! (stop !)) (init ! 7 refl (tt, tt)) $ use1 W (‵ (cellAt fullShare (placeT .mir) (placeV (ws .1 .1 .1 .1 .0) ∷ []) l8 0)) (W .laws .at-raw fullShare (τ 8) l8 0 (placeV (ws .1 .1 .1 .1 .0))) $
@@ -182,7 +182,7 @@ module _ {M : Type 1} (𝓤 : URA M) (H : Heap 𝓤) (A : Atoms 𝓤) (W : Given
         a-place ! (ws₂ .1 .0) g₂ $ nothing ! $ nothing ! $ fjoin ! $ nothing ! $ fjoin ! $ nothing ! $ fjoin ! $ nothing ! $ fjoin ! $ nothing ! $ fjoin ! $ move ! (4 ∷ 0 ∷ []) $ fjoin ! $ move ! (3 ∷ 0 ∷ []) $ fjoin ! $ nothing ! $ move ! (3 ∷ 0 ∷ []) $ join ! $
         move ! (4 ∷ 0 ∷ []) $ join ! $ move ! (3 ∷ 0 ∷ []) $ join ! $ keep ! (0 ∷ 1 ∷ 2 ∷ []) $
         by ! (ends 𝓤 H A W outer.ended stayed (outer.clauses 𝓤 H A at-mem run) ((κs, qs, bounds, a, vals), tt) (placeV (ws₂ .1 .0)) (ws₂ .1 .0) (ws .0, (ws .1 .0, (tt, (tt, (tt, (tt, (tt, tt))))))) (long-bytes, (long-phys, (tt, (tt, (tt, (tt, (tt, tt)))))))
-        (shows-both 𝓤 (put-done (plan .now) geometry slot (dev (bytes .now) (phys .now) place) (ws .0) (ws .1 .0) (ws .1 .1 .1 .1 .0) block block refl e (ws₂ .1 .0) (went (ws .1 .1 .1 .1 .0 .last) test) f) kept)))))))))))))))))))))))))))))))
+        (shows-both 𝓤 (put-done (plan .now) geometry slot (dev (bytes .now) (phys .now) place) (ws .0) (ws .1 .0) (ws .1 .1 .1 .1 .0) block e (ws₂ .1 .0) (went (ws .1 .1 .1 .1 .0 .last) test) f) kept)))))))))))))))))))))))))))))))
 
 pub put-block-spec : {M : Type 1} → stated.statement M
 unfolding code.routine tablesOf

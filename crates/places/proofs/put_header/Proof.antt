@@ -5,7 +5,7 @@ use mathlib.Core.List.{List}
 use Prim.Native.Nat.{ℕ}
 use Rattle.device.specs.declared.Geometry.{Geometry}
 use Rattle.device.specs.Device.{Dev}
-use Rattle.steps.specs.Steps.{putM}
+use Rattle.places.specs.Put.{putM}
 use Rattle.places.proofs.put_header.Statement.{statement}
 use Rattle.places.proofs.put_header.Tie as tie
 

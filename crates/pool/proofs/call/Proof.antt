@@ -52,14 +52,14 @@ use Rattle.table.specs.State.{bufs}
 use Rattle.table.proofs.Pool as Po
 use Rattle.table.proofs.Pool.Laws as Po′
 use Rattle.steps.specs.World.{lent}
-use Rattle.calls.specs.declared.Call.{Call}
-use Rattle.calls.specs.declared.Reply.{Reply}
-use Rattle.calls.specs.Calls.{called, replied}
-use Rattle.calls.proofs.Call as Ca
-use Rattle.calls.proofs.Call.Laws as Ca′
-use Rattle.calls.proofs.Reply as Re
-use Rattle.calls.proofs.Reply.Laws as Re′
-use Rattle.dispatch.specs.Dispatch.{callP}
+use Rattle.calls_gate.specs.declared.Call.{Call}
+use Rattle.calls_gate.specs.declared.Reply.{Reply}
+use Rattle.calls_gate.specs.Replies.{replied}
+use Rattle.calls_gate.specs.Calls.{callP}
+use Rattle.calls_gate.proofs.Call as Ca
+use Rattle.calls_gate.proofs.Call.Laws as Ca′
+use Rattle.calls_gate.proofs.Reply as Re
+use Rattle.calls_gate.proofs.Reply.Laws as Re′
 use Rattle.places.proofs.Parts.{geometryT, geometryV, placeT, placeV}
 use Rattle.pool.proofs.Parts.{poolT, poolV, callT, callV, replyT, replyV, a-call}
 use Rattle.pool.proofs.enter as inner
@@ -127,11 +127,11 @@ module _ {M : Type 1} (𝓤 : URA M) (H : Heap 𝓤) (A : Atoms 𝓤) (W : Given
 
   -- what the call came to
   abbrev Said : Reply → List ℕ → List ℕ → List Slot → List ℕ → List ℕ → List ℕ → Type 0
-  Said r b h l s d x = called (replied r b h (numsOf l) s d) x ≡ callP (plan .now) geometry call (one .now) (two .now) (buf .now) (lent (dev (bytes .now) (phys .now) (at .now)) (bufs pool (numsOf (rows .now)) (names .now) (dirs .now)))
+  Said r b h l s d x = replied r b h (numsOf l) s d x ≡ callP (plan .now) geometry call (one .now) (two .now) (buf .now) (lent (dev (bytes .now) (phys .now) (at .now)) (bufs pool (numsOf (rows .now)) (names .now) (dirs .now)))
 
   -- the place in a reply
   place-is : (r : Reply) → Is replyT r (replyV r ∷ []) → Is placeT (r .place) (placeV (r .place) ∷ [])
-  place-is r is = LL.owed Re.the-type Re′.the-laws r _ is .1 .1 .1 .1 .1 .1 .0
+  place-is r is = LL.owed Re.the-type Re′.the-laws r _ is .1 .1 .0
 
   module _ (C : Calls 𝓤 H) (Λ : Loops 𝓤 H) (fm : FmC 𝓤 H (W .laws) C) (enters : Meets 𝓤 H A inner.signature (C #pool·enter) (inner.spec 𝓤 H A at-mem run)) where
     walk : ent 𝓤 (onEntry 𝓤 H A outer.signature κs qs a vals) (WpFn 𝓤 H C Λ code.function (flat (typesAt (outer.signature .params) κs) vals) Post)
@@ -177,7 +177,7 @@ module _ {M : Type 1} (𝓤 : URA M) (H : Heap 𝓤) (A : Atoms 𝓤) (W : Given
         use1 W (‵ (flft (κs .0) (qs .0)) ⊛ (‵ (flft (κs .1 .0) (qs .1 .0)) ⊛ (‵ (flft (κs .1 .1 .0) (qs .1 .1 .0)) ⊛ (‵ (flft (κs .1 .1 .1 .1 .0) (qs .1 .1 .1 .1 .0)) ⊛ (‵ (flft (κs .1 .1 .1 .1 .1 .0) (qs .1 .1 .1 .1 .1 .0)) ⊛ (‵ (flft (κs .1 .1 .1 .1 .1 .1 .0) (qs .1 .1 .1 .1 .1 .1 .0)) ⊛ (‵ (flft (κs .1 .1 .1 .1 .1 .1 .1 .0) (qs .1 .1 .1 .1 .1 .1 .1 .0)) ⊛ (‵ (flft (κs .1 .1 .1 .1 .1 .1 .1 .1 .0) (qs .1 .1 .1 .1 .1 .1 .1 .1 .0)) ⊛ (‵ (flft (κs .1 .1 .1 .1 .1 .1 .1 .1 .1 .0) (qs .1 .1 .1 .1 .1 .1 .1 .1 .1 .0)) ⊛ ‵ ftrue))))))))) (id⊢ 𝓤 _) $ split ! $
         move ! (1 ∷ []) $ split ! $ move ! (1 ∷ []) $ split ! $ move ! (1 ∷ []) $ split ! $ move ! (1 ∷ []) $ split ! $ move ! (1 ∷ []) $ split ! $ move ! (1 ∷ []) $ split ! $ move ! (1 ∷ []) $ split ! $ move ! (1 ∷ []) $ split ! $ move ! (1 ∷ []) $ drop ! $
         land ! (from ! (stop !)) (init ! 45 refl (LL.lawful Re.the-type Re′.the-laws 𝓤 H A W .typed r _ is .0)) $
-        assigns ! (of-opd ! (load ! (from ! (fld ! refl (stop !))) (look-in ! 45 (sub ! 6 refl (whole !))))) (from ! (hop ! (look ! 63 refl) (stop !))) (store-raw ! 15 refl (LL.lawful P.the-type P′.the-laws 𝓤 H A W .typed (r .place) _ (place-is r is) .0)) $
+        assigns ! (of-opd ! (load ! (from ! (fld ! refl (stop !))) (look-in ! 45 (sub ! 2 refl (whole !))))) (from ! (hop ! (look ! 63 refl) (stop !))) (store-raw ! 15 refl (LL.lawful P.the-type P′.the-laws 𝓤 H A W .typed (r .place) _ (place-is r is) .0)) $
         assigns ! (of-opd ! (load ! (from ! (stop !)) (look ! 45 refl))) (from ! (stop !)) (init ! 73 refl (LL.lawful Re.the-type Re′.the-laws 𝓤 H A W .typed r _ is .0)) $ move ! (15 ∷ 16 ∷ 17 ∷ 18 ∷ []) $
         put-back ! tt P.the-type P′.the-laws P′.the-plain (named 3) (at .ptr .0) (at .ptr .1) (r .place) (place-is r is) $ returns ! (look ! 71 refl) $
         forget ! 71 refl $ forget ! 69 refl $ forget ! 67 refl $ forget ! 65 refl $ forget ! 63 refl $ forget ! 61 refl $ forget ! 59 refl $ forget ! 57 refl $ forget ! 55 refl $ forget ! 53 refl $ forget ! 51 refl $ forget ! 49 refl $ forget ! 47 refl $ forget ! 45 refl $ forget ! 43 refl $ forget ! 41 refl $ forget ! 39 refl $ forget ! 37 refl $ forget ! 35 refl $ forget ! 33 refl $ forget ! 31 refl $ forget ! 29 refl $ forget ! 27 refl $ forget ! 25 refl $ forget ! 23 refl $ forget ! 21 refl $ forget ! 19 refl $ forget ! 17 refl $

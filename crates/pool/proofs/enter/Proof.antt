@@ -75,17 +75,16 @@ use Rattle.table.proofs.Pool as Po
 use Rattle.table.proofs.Pool.Laws as Po′
 use Rattle.steps.specs.World.{lent}
 use Rattle.mount.specs.Mount.{zeroPool}
-use Rattle.gate.specs.declared.Answer.the-variants.{NotPool, WrongShape}
-use Rattle.intake.specs.Public.{zeroed}
-use Rattle.calls.specs.declared.Call.{Call}
-use Rattle.calls.specs.declared.Reply.{Reply}
-use Rattle.calls.specs.Calls.{Called, called, replied, quietly}
-use Rattle.calls.proofs.Call as Ca
-use Rattle.calls.proofs.Call.Laws as Ca′
-use Rattle.calls.proofs.Reply as Re
-use Rattle.calls.proofs.Reply.Laws as Re′
-use Rattle.dispatch.specs.Dispatch.{callP}
-use Rattle.dispatch.specs.Laws.{isMount}
+use Rattle.calls_gate.specs.declared.Answer.the-variants.{NotPool, WrongShape}
+use Rattle.calls_gate.specs.Table.{zeroed, takesOf}
+use Rattle.calls_gate.specs.declared.Call.{Call}
+use Rattle.calls_gate.specs.declared.Reply.{Reply}
+use Rattle.calls_gate.specs.Replies.{Came, replied, silently}
+use Rattle.calls_gate.specs.Calls.{callP}
+use Rattle.calls_gate.proofs.Call as Ca
+use Rattle.calls_gate.proofs.Call.Laws as Ca′
+use Rattle.calls_gate.proofs.Reply as Re
+use Rattle.calls_gate.proofs.Reply.Laws as Re′
 use Rattle.places.proofs.Parts.{geometryT, geometryV, placeT, placeV}
 use Rattle.pool.proofs.Parts.{poolT, poolV, callT, callV, replyT, replyV, a-call}
 use Rattle.pool.proofs.Laws.{lost-fits, few-rows, many-rows-are}
@@ -199,22 +198,22 @@ module _ {M : Type 1} (𝓤 : URA M) (H : Heap 𝓤) (A : Atoms 𝓤) (W : Given
   front-fits z e few = omega (arith, e, few)
 
   -- what the call over these numbers comes to
-  abbrev Came : List ℕ → Called
-  Came l = callP (plan .now) geometry call (one .now) (two .now) (buf .now) (lent (dev (bytes .now) (phys .now) place) (bufs pool l (names .now) (dirs .now)))
+  abbrev Comes : List ℕ → Came
+  Comes l = callP (plan .now) geometry call (one .now) (two .now) (buf .now) (lent (dev (bytes .now) (phys .now) place) (bufs pool l (names .now) (dirs .now)))
 
   -- what `on_front` ensures, and what `too_many` does
   abbrev Fronted : Reply → List ℕ → List ℕ → List ℕ → List ℕ → List ℕ → List ℕ → List ℕ → Type 0
-  Fronted r b h m s d x z = called (replied r b h (take (n * 4) m) s d) x ≡ Came (take (n * 4) z)
+  Fronted r b h m s d x z = replied r b h (take (n * 4) m) s d x ≡ Comes (take (n * 4) z)
 
   abbrev Refused : Reply → Type 0
-  Refused r = r ≡ cond (isMount call) (quietly WrongShape place zeroPool) (quietly NotPool place pool)
+  Refused r = r ≡ cond (takesOf call .mounts) (silently WrongShape place zeroPool) (silently NotPool place pool)
 
   abbrev Zeroed : List ℕ → List ℕ → Type 0
-  Zeroed s₀ s = s ≡ cond (isMount call) (zeroed s₀) s₀
+  Zeroed s₀ s = s ≡ cond (takesOf call .mounts) (zeroed s₀) s₀
 
   -- what the `ensures` says
   abbrev Said : Reply → List ℕ → List ℕ → List Slot → List ℕ → List ℕ → List ℕ → Type 0
-  Said r b h l s d x = called (replied r b h (numsOf l) s d) x ≡ Came (numsOf (rows .now))
+  Said r b h l s d x = replied r b h (numsOf l) s d x ≡ Comes (numsOf (rows .now))
 
   -- ---- what is held of the parameters
 
@@ -340,7 +339,7 @@ module _ {M : Type 1} (𝓤 : URA M) (H : Heap 𝓤) (A : Atoms 𝓤) (W : Given
     crowd test =
         nothing ! $ a-number ! n n-fits $ fjoin ! $ a-call ! call (are .1 .1 .1 .1 .1 .1 .1 .1 .1 .0) $ fjoin ! $ nothing ! $ use1 W (raw (alive 𝓤 H A lost.signature tt tt)) (id⊢ 𝓤 _) $
         calls-to ! fm lost.ended (lost.clauses 𝓤 H A at-mem run) loses ((tt, tt, tt, (call, (n, tt)), (callV call ∷ [], (vint w64 n ∷ [], tt))), tt) (id⊢ 𝓤 _) (λ k. vint w64 k) (uint-tells w64) (and-then ! (load ! (from ! (stop !)) (look ! 67 refl)) (and-then ! (load ! (from ! (stop !)) (look ! 59 refl)) (no-more !))) (λ k _ k-is.
-        heard ! (k ≡ cond (isMount call) n 0) (λ ek. drop ! $ drop ! $ land ! (from ! (stop !)) (init ! 56 refl (tt, record { fits = k-is .1 })) $
+        heard ! (k ≡ cond (takesOf call .mounts) n 0) (λ ek. drop ! $ drop ! $ land ! (from ! (stop !)) (init ! 56 refl (tt, record { fits = k-is .1 })) $
         assigns ! (addr ! (from ! (fld ! refl (hop ! (look-in ! 74 (sub ! 0 refl (whole !))) (stop !))))) (from ! (stop !)) (init ! 46 refl (tt, tt)) $
         assigns ! (agg ! (and-then ! (load ! (from ! (stop !)) (look ! 46 refl)) (and-then ! (load ! (from ! (fld ! refl (stop !))) (look-in ! 74 (sub ! 1 refl (whole !)))) (no-more !)))) (from ! (stop !)) (init ! 44 refl (tt, (tt, (record { fits = are .1 .1 .1 .1 .1 .0 .0 .1 .0 }, tt)))) $
         nothing ! $ a-number ! k (k-is .1) $ fjoin ! $ move ! (95 ∷ 0 ∷ []) $ fjoin ! $ nothing ! $ move ! (96 ∷ 0 ∷ []) $ join ! $ use1 W (raw (alive 𝓤 H A clear.signature (κs .1 .1 .1 .0, tt) (qs .1 .1 .1 .0, tt))) (id⊢ 𝓤 _) $ move ! (0 ∷ 1 ∷ []) $
@@ -366,7 +365,7 @@ module _ {M : Type 1} (𝓤 : URA M) (H : Heap 𝓤) (A : Atoms 𝓤) (W : Given
         drop ! $ land ! (from ! (stop !)) (init ! 6 refl (tt, tt)) $ assigns ! (of-opd ! (load ! (from ! (stop !)) (look ! 54 refl))) (from ! (stop !)) (init ! 88 refl (LL.lawful Re.the-type Re′.the-laws 𝓤 H A W .typed r _ is .0)) $ returns ! (look ! 88 refl) $
         forget ! 56 refl $ forget ! 54 refl $ forget ! 36 refl $ forget ! 6 refl $ forget ! 4 refl $ forget ! 2 refl $
         keep ! (2 ∷ 3 ∷ 4 ∷ 5 ∷ 6 ∷ 7 ∷ 8 ∷ 9 ∷ 10 ∷ 11 ∷ 12 ∷ 13 ∷ 14 ∷ 15 ∷ 16 ∷ 17 ∷ 18 ∷ 19 ∷ 20 ∷ 21 ∷ 22 ∷ 23 ∷ 24 ∷ 25 ∷ 26 ∷ 27 ∷ 28 ∷ 29 ∷ 30 ∷ 31 ∷ 32 ∷ 33 ∷ 34 ∷ 35 ∷ 36 ∷ 37 ∷ 38 ∷ 39 ∷ 40 ∷ 41 ∷ 42 ∷ 43 ∷ 44 ∷ 45 ∷ 46 ∷ 47 ∷ 48 ∷ 49 ∷ 50 ∷ 51 ∷ 52 ∷ 53 ∷ 54 ∷ 55 ∷ 56 ∷ 57 ∷ 58 ∷ 59 ∷ 60 ∷ 61 ∷ 62 ∷ 63 ∷ 64 ∷ 65 ∷ 66 ∷ 67 ∷ 68 ∷ 69 ∷ 70 ∷ 71 ∷ 72 ∷ 73 ∷ 74 ∷ 75 ∷ 76 ∷ 77 ∷ 78 ∷ 79 ∷ 80 ∷ 81 ∷ 82 ∷ 83 ∷ 84 ∷ 85 ∷ 86 ∷ 87 ∷ 88 ∷ 89 ∷ 90 ∷ 91 ∷ 92 ∷ 93 ∷ 94 ∷ 1 ∷ 0 ∷ 95 ∷ 96 ∷ 97 ∷ 98 ∷ 99 ∷ 100 ∷ 101 ∷ 102 ∷ []) $
-        leaves r is b h (ws .0) s d x long-bytes long-phys long-rows long-names long-dirs long-buf (few-rows Came r b h s d x (rows .now) (ws .0) z m few ez long-m er e))))
+        leaves r is b h (ws .0) s d x long-bytes long-phys long-rows long-names long-dirs long-buf (few-rows Comes r b h s d x (rows .now) (ws .0) z m few ez long-m er e))))
 
     -- the call over their numbers
     made : n ≤ 64 → (z : List ℕ) → Is numsT z (numsVs z) → z ≡ flatOf (rows .now) → Sq W (Temps (none 17 l17 (some 16 l16 (numsV z) (none 15 l15 (Params (none 0 l0 (has-bytes ∷ tok-bytes ∷ has-phys ∷ tok-phys ∷ has-plan ∷ tok-plan ∷ has-rows ∷ tok-rows ∷ has-names ∷ tok-names ∷ has-dirs ∷ tok-dirs ∷ has-one ∷ tok-one ∷ has-two ∷ tok-two ∷ has-buf ∷ tok-buf ∷ []))))))) (runs C Λ En body.t-8 (atRet En Post))

@@ -6,14 +6,14 @@ use Rattle.pool.proofs.Laws.{on-front}
 use Rattle.pool.proofs.on_front.Statement.{statement}
 use Rattle.pool.proofs.on_front.Tie as tie
 
-front-long : tie.Need-slice-aggregate-call
+front-long : tie.Need-slice-aggregate-make
 front-long c = sym (length-take-le _ _ (c .before .before .before .before .before .before .before .before .before .before .before .before .pre))
 
 returns : tie.Need-returns
 returns c =
-    let at-call = c .before .before .before .before .before .before .before .before .before .before .before .before in
-    let at-args = at-call .before .before .before .before .before .before .before .before .before .before .before .before .before .before .before .before in
-    on-front _ _ _ _ _ _ _ _ _ _ _ (at-args .pre) (at-call .call .kept .1 .1 .1 .1 .1 .0) (at-call .call .ensures)
+    let at-make = c .before .before .before .before .before .before .before .before .before .before .before .before in
+    let at-args = at-make .before .before .before .before .before .before .before .before .before .before .before .before .before .before .before .before in
+    on-front _ _ _ _ _ _ _ _ _ _ _ (at-args .pre) (at-make .make .kept .1 .1 .1 .1 .1 .0) (at-make .make .ensures)
 
 pub on-front-spec : {M : Type 1} → statement M
 on-front-spec =

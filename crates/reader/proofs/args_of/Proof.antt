@@ -22,77 +22,94 @@ use Rattle.reader.proofs.run_if.Reads as run-if-reads
 ended : (s : List ℕ) (i : ℕ) (w : Bool) (a : Span) → i ≤ length s → a ≡ spanIf w s i → a .to ≤ length s
 ended s i w a h e = subst (λ (r : Span). r .to ≤ length s) (sym e) (span-if-inside w s i h .end)
 
--- src/lib.rt:174:9
 form-of-requires : tie.Need-form-of-requires
 form-of-requires c κs = search needs
 
--- src/lib.rt:175:25
 add-at-generation : tie.Need-add-at-generation
 add-at-generation c = let m = small _ _ (c .before .form-of .ensures) in omega (arith, m .slot, m .generation, m .at, m .n)
 
--- src/lib.rt:176:17
 add-at-at : tie.Need-add-at-at
 add-at-at c = let m = small _ _ (c .before .before .form-of .ensures) in omega (arith, m .slot, m .generation, m .at, m .n)
 
--- src/lib.rt:177:16
 add-at-n : tie.Need-add-at-n
 add-at-n c = let m = small _ _ (c .before .before .before .form-of .ensures) in omega (arith, m .slot, m .generation, m .at, m .n)
 
--- src/lib.rt:178:19
 add-at-runs : tie.Need-add-at-runs
 add-at-runs c = let m = small _ _ (c .before .before .before .before .form-of .ensures) in omega (arith, m .slot, m .generation, m .at, m .n)
 
--- src/lib.rt:180:9
 no-op-requires : tie.Need-no-op-requires
 no-op-requires c κs = search needs
 
--- src/lib.rt:180:9
 returns : tie.Need-returns
 returns c = c .no-op .ensures ∙ args-short _ _ _ _ (c .before .before .before .before .before .before .form-of .ensures) (c .before .if1 .taken)
 
--- src/lib.rt:182:9
 run-if-requires : tie.Need-run-if-requires
 run-if-requires c κs = search needs
 
--- src/lib.rt:184:9
 no-op-requires-2 : tie.Need-no-op-requires-2
 no-op-requires-2 c κs = search needs
 
--- src/lib.rt:184:9
 returns-2 : tie.Need-returns-2
-returns-2 c = c .no-op2 .ensures ∙ args-first _ _ _ _ (c .before .before .before .before .before .before .before .before .before .before .form-of .ensures) (c .before .before .before .before .before .if1 .left) _ (c .before .before .before .run-if .ensures) (not-true _ (c .before .if2 .taken))
+returns-2 c =
+    let at-if1 = c .before .before .before .before .before in
+    let at-form-of = at-if1 .before .before .before .before .before in
+    c .no-op2 .ensures ∙ args-first _ _ _ _ (at-form-of .form-of .ensures) (at-if1 .if1 .left) _
+    (c .before .before .before .run-if .ensures) (not-true _ (c .before .if2 .taken))
 
--- src/lib.rt:186:9
 run-if-requires-2 : tie.Need-run-if-requires-2
 run-if-requires-2 c κs = omega (arith, ended _ _ _ _ (c .before .before .before .before .before .if1 .left) (c .before .before .before .run-if .ensures))
 
--- src/lib.rt:188:9
 no-op-requires-3 : tie.Need-no-op-requires-3
 no-op-requires-3 c κs = search needs
 
--- src/lib.rt:188:9
 returns-3 : tie.Need-returns-3
-returns-3 c = c .no-op3 .ensures ∙ args-second _ _ _ _ (c .before .before .before .before .before .before .before .before .before .before .before .before .before .before .form-of .ensures) (c .before .before .before .before .before .before .before .before .before .if1 .left) _ (c .before .before .before .before .before .before .before .run-if .ensures) (not-false _ (c .before .before .before .before .before .if2 .left)) _ (c .before .before .before .run-if2 .ensures) (not-true _ (c .before .if3 .taken))
+returns-3 c =
+    let at-run-if = c .before .before .before .before .before .before .before in
+    let at-form-of = at-run-if .before .before .before .before .before .before .before in
+    c .no-op3 .ensures ∙ args-second _ _ _ _ (at-form-of .form-of .ensures) (at-run-if .before .before .if1 .left) _
+    (at-run-if .run-if .ensures) (not-false _ (c .before .before .before .before .before .if2 .left)) _
+    (c .before .before .before .run-if2 .ensures) (not-true _ (c .before .if3 .taken))
 
--- src/lib.rt:192:15
 get-at-requires : tie.Need-get-at-requires
-get-at-requires c κs = let m = small _ _ (c .before .before .before .before .before .before .before .before .before .before .before .before .before .form-of .ensures) in (omega (arith, c .before .before .before .before .before .before .before .before .if1 .left), omega (arith, m .slot, m .generation, m .at, m .n))
+get-at-requires c κs =
+    let after-if1 = c .before .before .before .before .before .before .before in
+    let at-form-of = after-if1 .before .before .before .before .before .before in
+    let m = small _ _ (at-form-of .form-of .ensures) in
+    (omega (arith, after-if1 .before .if1 .left), omega (arith, m .slot, m .generation, m .at, m .n))
 
--- src/lib.rt:193:21
 get-at-requires-2 : tie.Need-get-at-requires-2
-get-at-requires-2 c κs = let m = small _ _ (c .before .before .before .before .before .before .before .before .before .before .before .before .before .before .form-of .ensures) in (omega (arith, c .before .before .before .before .before .before .before .before .before .if1 .left), omega (arith, m .slot, m .generation, m .at, m .n))
+get-at-requires-2 c κs =
+    let after-if1 = c .before .before .before .before .before .before .before in
+    let at-form-of = after-if1 .before .before .before .before .before .before .before in
+    let m = small _ _ (at-form-of .form-of .ensures) in
+    (omega (arith, after-if1 .before .before .if1 .left), omega (arith, m .slot, m .generation, m .at, m .n))
 
--- src/lib.rt:194:13
 get-at-requires-3 : tie.Need-get-at-requires-3
-get-at-requires-3 c κs = let m = small _ _ (c .before .before .before .before .before .before .before .before .before .before .before .before .before .before .before .form-of .ensures) in (omega (arith, c .before .before .before .before .before .before .before .before .before .before .if1 .left), omega (arith, m .slot, m .generation, m .at, m .n))
+get-at-requires-3 c κs =
+    let after-if1 = c .before .before .before .before .before .before .before in
+    let at-if1 = after-if1 .before .before .before in
+    let at-form-of = at-if1 .before .before .before .before .before in
+    let m = small _ _ (at-form-of .form-of .ensures) in
+    (omega (arith, at-if1 .if1 .left), omega (arith, m .slot, m .generation, m .at, m .n))
 
--- src/lib.rt:195:12
 get-at-requires-4 : tie.Need-get-at-requires-4
-get-at-requires-4 c κs = let m = small _ _ (c .before .before .before .before .before .before .before .before .before .before .before .before .before .before .before .before .form-of .ensures) in (omega (arith, c .before .before .before .before .before .before .before .before .before .before .before .if1 .left), omega (arith, m .slot, m .generation, m .at, m .n))
+get-at-requires-4 c κs =
+    let after-if1 = c .before .before .before .before .before .before .before in
+    let at-if1 = after-if1 .before .before .before .before in
+    let at-form-of = at-if1 .before .before .before .before .before in
+    let m = small _ _ (at-form-of .form-of .ensures) in
+    (omega (arith, at-if1 .if1 .left), omega (arith, m .slot, m .generation, m .at, m .n))
 
--- src/lib.rt:170:1
 returns-4 : tie.Need-returns-4
-returns-4 c = args-whole _ _ _ _ (c .before .before .before .before .before .before .before .before .before .before .before .before .before .before .before .before .before .form-of .ensures) (c .before .before .before .before .before .before .before .before .before .before .before .before .if1 .left) _ (c .before .before .before .before .before .before .before .before .before .before .run-if .ensures) (not-false _ (c .before .before .before .before .before .before .before .before .if2 .left)) _ (c .before .before .before .before .before .before .run-if2 .ensures) _ _ _ _ (not-false _ (c .before .before .before .before .if3 .left)) (c .before .before .before .get-at .ensures) (c .before .before .get-at2 .ensures) (c .before .get-at3 .ensures) (c .get-at4 .ensures)
+returns-4 c =
+    let at-run-if2 = c .before .before .before .before .before .before in
+    let at-if2 = at-run-if2 .before .before in
+    let at-if1 = at-if2 .before .before .before .before in
+    let at-form-of = at-if1 .before .before .before .before .before in
+    args-whole _ _ _ _ (at-form-of .form-of .ensures) (at-if1 .if1 .left) _ (at-if2 .before .before .run-if .ensures)
+    (not-false _ (at-if2 .if2 .left)) _ (at-run-if2 .run-if2 .ensures) _ _ _ _
+    (not-false _ (c .before .before .before .before .if3 .left)) (c .before .before .before .get-at .ensures)
+    (c .before .before .get-at2 .ensures) (c .before .get-at3 .ensures) (c .get-at4 .ensures)
 
 pub args-of-spec : {M : Type 1} → statement M
 args-of-spec =

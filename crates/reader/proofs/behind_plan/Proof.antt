@@ -21,47 +21,36 @@ use Rattle.reader.proofs.run_at.Reads as run-at-reads
 ended : (s : List ℕ) (i : ℕ) (a : Span) → a ≡ spanAt s i → a .to ≤ length s
 ended s i a e = subst (λ (r : Span). r .to ≤ length s) (sym e) (span-inside s i .end)
 
--- src/lib.rt:265:9
 run-at-requires : tie.Need-run-at-requires
 run-at-requires c κs = search needs
 
--- src/lib.rt:267:9
 no-setup-requires : tie.Need-no-setup-requires
 no-setup-requires c κs = search needs
 
--- src/lib.rt:267:9
 returns : tie.Need-returns
 returns c = c .no-setup .ensures ∙ plan-cut _ _ _ _ _ _ (c .before .before .before .run-at .ensures) (not-true _ (c .before .if1 .taken))
 
--- src/lib.rt:270:26
 mul-counted : tie.Need-mul-counted
 mul-counted c = search needs
 
--- src/lib.rt:270:19
 add-counted : tie.Need-add-counted
 add-counted c = omega (arith, ended _ _ _ (c .before .before .run-at .ensures), c .before .before .before .before .pre .1)
 
--- src/lib.rt:271:18
 add-if2 : tie.Need-add-if2
 add-if2 c = omega (arith, ended _ _ _ (c .before .before .run-at .ensures), c .before .before .before .before .pre .1)
 
--- src/lib.rt:272:9
 no-setup-requires-2 : tie.Need-no-setup-requires-2
 no-setup-requires-2 c κs = search needs
 
--- src/lib.rt:272:9
 returns-2 : tie.Need-returns-2
 returns-2 c = c .no-setup2 .ensures ∙ lengths-cut _ _ _ _ _ _ (c .before .before .before .before .run-at .ensures) (not-false _ (c .before .before .if1 .left)) (c .before .if2 .taken)
 
--- src/lib.rt:282:16
 get-at-requires : tie.Need-get-at-requires
 get-at-requires c κs = search needs
 
--- src/lib.rt:283:18
 add-t11 : tie.Need-add-t11
 add-t11 c = search needs
 
--- src/lib.rt:261:1
 returns-3 : tie.Need-returns-3
 returns-3 c = setup-whole _ _ _ _ _ _ (c .before .before .before .before .run-at .ensures) (not-false _ (c .before .before .if1 .left)) _ (c .before .if2 .left) (c .get-at .ensures)
 

@@ -7,87 +7,66 @@ use Rattle.reader.proofs.form_of.Tie as tie
 use Rattle.reader.proofs.form_of.Reads as reads
 use Rattle.reader.proofs.form_of.Lts as lts
 
--- src/lib.rt:123:15
 mul-t12 : tie.Need-mul-t12
 mul-t12 c = search needs
 
--- src/lib.rt:123:15
 array-read-t15 : tie.Need-array-read-t15
 array-read-t15 c = search needs
 
--- src/lib.rt:124:21
 mul-t16 : tie.Need-mul-t16
 mul-t16 c = search needs
 
--- src/lib.rt:124:21
 array-read-t19 : tie.Need-array-read-t19
 array-read-t19 c = search needs
 
--- src/lib.rt:125:13
 mul-t20 : tie.Need-mul-t20
 mul-t20 c = search needs
 
--- src/lib.rt:125:13
 array-read-t23 : tie.Need-array-read-t23
 array-read-t23 c = search needs
 
--- src/lib.rt:126:12
 mul-t24 : tie.Need-mul-t24
 mul-t24 c = search needs
 
--- src/lib.rt:126:12
 array-read-t27 : tie.Need-array-read-t27
 array-read-t27 c = search needs
 
--- src/lib.rt:127:15
 mul-t28 : tie.Need-mul-t28
 mul-t28 c = search needs
 
--- src/lib.rt:127:15
 array-read-t31 : tie.Need-array-read-t31
 array-read-t31 c = search needs
 
--- src/lib.rt:128:21
 mul-t32 : tie.Need-mul-t32
 mul-t32 c = search needs
 
--- src/lib.rt:128:21
 array-read-t35 : tie.Need-array-read-t35
 array-read-t35 c = search needs
 
--- src/lib.rt:129:27
 mul-t36 : tie.Need-mul-t36
 mul-t36 c = search needs
 
--- src/lib.rt:129:27
 array-read-t39 : tie.Need-array-read-t39
 array-read-t39 c = search needs
 
--- src/lib.rt:130:20
 mul-t40 : tie.Need-mul-t40
 mul-t40 c = search needs
 
--- src/lib.rt:130:20
 array-read-t43 : tie.Need-array-read-t43
 array-read-t43 c = search needs
 
--- src/lib.rt:131:22
 mul-t44 : tie.Need-mul-t44
 mul-t44 c = search needs
 
--- src/lib.rt:131:22
 array-read-t47 : tie.Need-array-read-t47
 array-read-t47 c = search needs
 
--- src/lib.rt:132:20
 mul-t48 : tie.Need-mul-t48
 mul-t48 c = search needs
 
--- src/lib.rt:132:20
 array-read-t51 : tie.Need-array-read-t51
 array-read-t51 c = search needs
 
--- src/lib.rt:108:1
 returns : tie.Need-returns
 unfolding formOf
 returns c = columns forms (c .args .code)

@@ -21,56 +21,52 @@ Inv-loop s i phys₀ k₀ phys k = (k ≤ length phys) × (length phys ≡ lengt
 abbrev μ-loop : tie.MeasureT-loop
 μ-loop s i phys₀ k₀ phys k = length phys - k
 
--- src/lib.rt:293:5
 loop-holds : tie.Need-loop-holds Inv-loop μ-loop
 loop-holds c = (omega arith, refl, rw sub-zero)
 
--- src/lib.rt:294:37
 mul-get-at : tie.Need-mul-get-at Inv-loop μ-loop
 mul-get-at c = omega (arith, c .before .before .before .before .pre)
 
--- src/lib.rt:294:33
 add-get-at : tie.Need-add-get-at Inv-loop μ-loop
 add-get-at c = omega (arith, c .before .before .before .before .pre)
 
--- src/lib.rt:294:19
 get-at-requires : tie.Need-get-at-requires Inv-loop μ-loop
 get-at-requires c κs = omega (arith, c .before .before .before .before .pre)
 
--- src/lib.rt:294:9
 mul-phys : tie.Need-mul-phys Inv-loop μ-loop
 mul-phys c = omega (arith, c .before .before .before .before .before .pre)
 
--- src/lib.rt:294:9
 slice-write-phys : tie.Need-slice-write-phys Inv-loop μ-loop
 slice-write-phys c = search needs
 
--- src/lib.rt:295:9
 add-k : tie.Need-add-k Inv-loop μ-loop
 add-k c = omega arith
 
--- src/lib.rt:293:5
 loop-less : tie.Need-loop-less Inv-loop μ-loop
 loop-less c = simp length-set (omega arith)
 
--- src/lib.rt:293:5
 loop-again : tie.Need-loop-again Inv-loop μ-loop
 loop-again c =
+    let at-start = c .before .before .before .before .before in
     let a = c .before .before .loop in
-    let n : ℕ = length (c .before .before .before .before .before .args .phys .now) in
-    (simp length-set (omega arith), simp length-set (a .inv .1), lengths-set (c .before .before .before .before .before .args .s .now) (c .before .before .before .before .before .args .i) (a .phys) (a .k) n _ (c .get-at .ensures) (omega arith) (omega arith) ∙ a .inv .2)
+    let n : ℕ = length (at-start .args .phys .now) in (
+      simp length-set (omega arith),
+      simp length-set (a .inv .1),
+      lengths-set (at-start .args .s .now) (at-start .args .i) (a .phys)
+          (a .k) n _ (c .get-at .ensures) (omega arith) (omega arith) ∙ a .inv .2,
+    )
 
--- src/lib.rt:288:1
 same-length : tie.Need-same-length Inv-loop μ-loop
 same-length c = c .before .loop .inv .1
 
--- src/lib.rt:288:1
 returns : tie.Need-returns Inv-loop μ-loop
 returns c =
+    let at-start = c .before .before .before .before in
     let a = c .before .loop in
-    let n : ℕ = length (c .before .before .before .before .args .phys .now) in
+    let n : ℕ = length (at-start .args .phys .now) in
     let all : take (a .k) (a .phys) ≡ a .phys = take-all (a .k) (a .phys) (omega arith) in
-    sym all ∙ sym (append-nil _) ∙ ap (λ (t : List ℕ). take (a .k) (a .phys) ++ t) (sym (tab-end (lengthAt (c .before .before .before .before .args .s .now) (c .before .before .before .before .args .i)) n (a .k) (omega arith))) ∙ a .inv .2
+    sym all ∙ sym (append-nil _) ∙ ap (λ (t : List ℕ). take (a .k) (a .phys) ++ t)
+    (sym (tab-end (lengthAt (at-start .args .s .now) (at-start .args .i)) n (a .k) (omega arith))) ∙ a .inv .2
 
 pub lengths-spec : {M : Type 1} → statement M
 lengths-spec =

@@ -7,26 +7,21 @@ use Rattle.reader.proofs.limits_ok.Tie as tie
 use Rattle.reader.proofs.limits_ok.Reads as reads
 use Rattle.reader.proofs.limits_ok.Lts as lts
 
--- src/lib.rt:225:9
 returns : tie.Need-returns
 unfolding limitsOk
 returns c = rw (lt-leb _ _ (c .if1 .taken))
 
--- src/lib.rt:228:9
 returns-2 : tie.Need-returns-2
 unfolding limitsOk
 returns-2 c = rw (le-leb _ _ (c .before .if1 .left), lt-leb _ _ (c .if2 .taken))
 
--- src/lib.rt:231:9
 returns-3 : tie.Need-returns-3
 unfolding limitsOk
 returns-3 c = rw (le-leb _ _ (c .before .before .if1 .left), le-leb _ _ (c .before .if2 .left), lt-leb _ _ (c .if3 .taken))
 
--- src/lib.rt:233:5
 mul-result : tie.Need-mul-result
 mul-result c = omega (arith, mul-le-mul-right {m = c .before .before .before .args .slots} {n = 64} (c .before .before .before .args .size) (c .before .before .if1 .left), c .before .before .before .pre .1)
 
--- src/lib.rt:220:1
 returns-4 : tie.Need-returns-4
 unfolding limitsOk
 returns-4 c = rw (le-leb _ _ (c .before .before .if1 .left), le-leb _ _ (c .before .if2 .left), le-leb _ _ (c .if3 .left))

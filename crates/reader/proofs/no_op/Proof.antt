@@ -8,15 +8,12 @@ use Rattle.reader.proofs.no_op.Reads as reads
 use Rattle.reader.proofs.no_op.Lts as lts
 use Rattle.reader.proofs.no_span.Reads as no-span-reads
 
--- src/lib.rt:146:16
 no-span-requires : tie.Need-no-span-requires
 no-span-requires c κs = search needs
 
--- src/lib.rt:147:17
 no-span-requires-2 : tie.Need-no-span-requires-2
 no-span-requires-2 c κs = search needs
 
--- src/lib.rt:137:1
 returns : tie.Need-returns
 returns c = ap₂ {C = Op} (λ a b. record { code = 0; slot = 0; generation = 0; at = 0; n = 0; first = a; second = b }) (c .before .no-span .ensures) (c .no-span2 .ensures)
 

@@ -8,11 +8,9 @@ use Rattle.reader.proofs.no_setup.Reads as reads
 use Rattle.reader.proofs.no_setup.Lts as lts
 use Rattle.reader.proofs.no_span.Reads as no-span-reads
 
--- src/lib.rt:212:15
 no-span-requires : tie.Need-no-span-requires
 no-span-requires c κs = search needs
 
--- src/lib.rt:203:1
 returns : tie.Need-returns
 returns c = ap {B = Setup} (λ a. record { whole = false; slots = 0; rows = 0; «dir_rows» = 0; size = 0; plan = a; phys = 0; count = 0; patches = 0 }) (c .no-span .ensures)
 

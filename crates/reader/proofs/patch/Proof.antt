@@ -24,47 +24,54 @@ Inv-loop s i count bytes₀ at₀ k₀ bytes at k = (at ≤ length s) × (k ≤ 
 abbrev μ-loop : tie.MeasureT-loop
 μ-loop s i count bytes₀ at₀ k₀ bytes at k = count - k
 
--- src/lib.rt:330:5
 loop-holds : tie.Need-loop-holds Inv-loop μ-loop
 loop-holds c = (c .before .before .pre, omega arith, refl, rw sub-zero)
 
--- src/lib.rt:331:13
 patch-one-requires : tie.Need-patch-one-requires Inv-loop μ-loop
 patch-one-requires c κs = c .before .before .loop .inv .0
 
--- src/lib.rt:333:13
 no-span-requires : tie.Need-no-span-requires Inv-loop μ-loop
 no-span-requires c κs = search needs
 
--- src/lib.rt:333:13
 same-length : tie.Need-same-length Inv-loop μ-loop
-same-length c = c .before .before .before .before .before .patch-one .kept .1 .1 .0 ∙ c .before .before .before .before .before .before .before .before .loop .inv .2
+same-length c =
+    let at-patch-one = c .before .before .before .before .before in
+    at-patch-one .patch-one .kept .1 .1 .0 ∙ at-patch-one .before .before .before .loop .inv .2
 
--- src/lib.rt:333:13
 returns : tie.Need-returns Inv-loop μ-loop
 returns c =
-    let n : c .before .before .before .before .before .before .before .before .before .before .before .args .count - c .before .before .before .before .before .before .before .before .loop .k ≡ suc (c .before .before .before .before .before .before .before .before .before .before .before .args .count - (c .before .before .before .before .before .before .before .before .loop .k + 1)) = omega arith in
-    ap (λ (r : Span). patching r (c .before .before .before .before .before .patch-one .last .1 .1 .0)) (c .no-span .ensures) ∙ patches-stop _ (c .before .before .before .before .before .before .before .before .before .before .before .args .count - (c .before .before .before .before .before .before .before .before .loop .k + 1)) _ _ _ _ (c .before .before .before .before .before .patch-one .ensures) (not-true _ (c .before .if1 .taken)) ∙ ap (λ (j : ℕ). patchedM (c .before .before .before .before .before .before .before .before .before .before .before .args .s .now) j (c .before .before .before .before .before .before .before .before .loop .at) (c .before .before .before .before .before .before .before .before .loop .bytes)) (sym n) ∙ c .before .before .before .before .before .before .before .before .loop .inv .3
+    let at-patch-one = c .before .before .before .before .before in
+    let at-loop = at-patch-one .before .before .before in
+    let at-start = at-loop .before .before .before in
+    let n : at-start .args .count - at-loop .loop .k ≡ suc (at-start .args .count - (at-loop .loop .k + 1)) = omega arith in
+    ap (λ (r : Span). patching r (at-patch-one .patch-one .last .1 .1 .0)) (c .no-span .ensures) ∙ patches-stop _
+    (at-start .args .count - (at-loop .loop .k + 1)) _ _ _ _ (at-patch-one .patch-one .ensures)
+    (not-true _ (c .before .if1 .taken)) ∙ ap
+    (λ (j : ℕ). patchedM (at-start .args .s .now) j (at-loop .loop .at) (at-loop .loop .bytes)) (sym n) ∙ at-loop .loop .inv .3
 
--- src/lib.rt:336:9
 add-k : tie.Need-add-k Inv-loop μ-loop
 add-k c = omega arith
 
--- src/lib.rt:330:5
 loop-less : tie.Need-loop-less Inv-loop μ-loop
 loop-less c = omega arith
 
--- src/lib.rt:330:5
 loop-again : tie.Need-loop-again Inv-loop μ-loop
 loop-again c =
-    let n : c .before .before .before .before .before .before .before .before .before .before .args .count - c .before .before .before .before .before .before .before .loop .k ≡ suc (c .before .before .before .before .before .before .before .before .before .before .args .count - (c .before .before .before .before .before .before .before .loop .k + 1)) = omega arith in
-    (patch-end _ _ _ _ _ (c .before .before .before .before .patch-one .ensures), omega arith, c .before .before .before .before .patch-one .kept .1 .1 .0 ∙ c .before .before .before .before .before .before .before .loop .inv .2, patches-turn _ (c .before .before .before .before .before .before .before .before .before .before .args .count - (c .before .before .before .before .before .before .before .loop .k + 1)) _ _ _ _ (c .before .before .before .before .patch-one .ensures) (not-false _ (c .if1 .left)) ∙ ap (λ (j : ℕ). patchedM (c .before .before .before .before .before .before .before .before .before .before .args .s .now) j (c .before .before .before .before .before .before .before .loop .at) (c .before .before .before .before .before .before .before .loop .bytes)) (sym n) ∙ c .before .before .before .before .before .before .before .loop .inv .3)
+    let at-patch-one = c .before .before .before .before in
+    let at-loop = at-patch-one .before .before .before in
+    let at-start = at-loop .before .before .before in
+    let n : at-start .args .count - at-loop .loop .k ≡ suc (at-start .args .count - (at-loop .loop .k + 1)) = omega arith in (
+      patch-end _ _ _ _ _ (at-patch-one .patch-one .ensures),
+      omega arith,
+      at-patch-one .patch-one .kept .1 .1 .0 ∙ at-loop .loop .inv .2,
+      patches-turn _ (at-start .args .count - (at-loop .loop .k + 1)) _ _ _ _ (at-patch-one .patch-one .ensures)
+          (not-false _ (c .if1 .left)) ∙ ap (λ (j : ℕ). patchedM (at-start .args .s .now) j (at-loop .loop .at) (at-loop .loop .bytes))
+          (sym n) ∙ at-loop .loop .inv .3,
+    )
 
--- src/lib.rt:324:1
 same-length-2 : tie.Need-same-length-2 Inv-loop μ-loop
 same-length-2 c = c .before .loop .inv .2
 
--- src/lib.rt:324:1
 returns-2 : tie.Need-returns-2 Inv-loop μ-loop
 returns-2 c = patches-end _ _ _ _ (omega arith) ∙ c .before .loop .inv .3
 

@@ -8,35 +8,27 @@ use Rattle.reader.proofs.run_at.Lts as lts
 use Rattle.le.proofs.get_at.Reads as get-at-reads
 use Rattle.reader.proofs.no_span.Reads as no-span-reads
 
--- src/lib.rt:75:16
 add-from : tie.Need-add-from
 add-from c = search needs
 
--- src/lib.rt:77:9
 no-span-requires : tie.Need-no-span-requires
 no-span-requires c κs = search needs
 
--- src/lib.rt:77:9
 returns : tie.Need-returns
 returns c = c .no-span .ensures ∙ run-short _ _ (c .before .if1 .taken)
 
--- src/lib.rt:79:13
 get-at-requires : tie.Need-get-at-requires
 get-at-requires c κs = search needs
 
--- src/lib.rt:81:9
 no-span-requires-2 : tie.Need-no-span-requires-2
 no-span-requires-2 c κs = search needs
 
--- src/lib.rt:81:9
 returns-2 : tie.Need-returns-2
 returns-2 c = c .no-span2 .ensures ∙ run-cut _ _ _ (c .before .before .get-at .ensures) (c .before .before .before .if1 .left) (c .before .if2 .taken)
 
--- src/lib.rt:85:13
 add-t8 : tie.Need-add-t8
 add-t8 c = search needs
 
--- src/lib.rt:70:1
 returns-3 : tie.Need-returns-3
 returns-3 c = run-whole _ _ _ (c .before .get-at .ensures) (c .before .before .if1 .left) (c .if2 .left)
 

@@ -6,15 +6,12 @@ use Rattle.reader.proofs.run_if.Reads as reads
 use Rattle.reader.proofs.run_if.Lts as lts
 use Rattle.reader.proofs.run_at.Reads as run-at-reads
 
--- src/lib.rt:97:9
 run-at-requires : tie.Need-run-at-requires
 run-at-requires c κs = search needs
 
--- src/lib.rt:97:9
 returns : tie.Need-returns
 returns c = if-wanted _ _ _ _ (c .before .if1 .taken) (c .run-at .ensures)
 
--- src/lib.rt:92:1
 returns-2 : tie.Need-returns-2
 returns-2 c = if-not _ _ _ (c .if1 .left)
 

@@ -1,6 +1,6 @@
 -- Carried by `zero-all`: as many zeros as there are cells.
 use borrow.Author.Needs.{needs}
-use Rattle.rows.proofs.Cells.{zero-all}
+use Rattle.lists.specs.Stores.{zero-all}
 use Rattle.rows.proofs.clear_rows.Statement.{statement}
 use Rattle.rows.proofs.clear_rows.Tie as tie
 

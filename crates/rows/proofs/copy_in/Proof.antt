@@ -3,7 +3,7 @@ use lib.ListN.{length, drop, length-set}
 use lib.Seq.{sets}
 use Prim.Native.Nat.{_≤_, _-_, _+_}
 use native.Mathlib.Nat.{add-zero}
-use Rattle.rows.proofs.Cells.{copy-turn, copy-end}
+use Rattle.lists.specs.Stores.{copy-turn, copy-end}
 use mathlib.Core.Path.{_≡_, refl, sym, _∙_}
 use native.Mathlib.Omega.{arith}
 use Rattle.rows.proofs.copy_in.Statement.{statement}

@@ -1,7 +1,7 @@
 -- Carried by `key-other`: paths with different keys are not equal.
 use mathlib.Core.Path.{sym, _∙_}
 use borrow.Author.Needs.{needs}
-use Rattle.rows.proofs.Fields.{key-other}
+use Rattle.path.specs.Theorems.{key-other}
 use Rattle.rows.proofs.spells.Statement.{statement}
 use Rattle.rows.proofs.spells.Tie as tie
 
@@ -9,7 +9,7 @@ key-requires : tie.Need-key-requires
 key-requires c κs = search needs
 
 returns : tie.Need-returns
-returns c = key-other _ _ (λ e. c .if1 .taken (c .before .key .ensures ∙ e ∙ sym (c .before .before .before .before .pre)))
+returns c = sym (key-other _ _ (λ e. c .if1 .taken (c .before .key .ensures ∙ e ∙ sym (c .before .before .before .before .pre))))
 
 same-path-requires : tie.Need-same-path-requires
 same-path-requires c κs = search needs

@@ -11,23 +11,23 @@ use Rattle.script.proofs.pool_script.Lts as lts
 use Rattle.reader.proofs.setup_at.Reads as setup-at-reads
 use Rattle.script.proofs.on_device.Reads as on-device-reads
 
--- src/lib.rt:235:9
 setup-at-requires : tie.Need-setup-at-requires
 setup-at-requires c κs = search needs
 
--- src/lib.rt:237:9
 returns : tie.Need-returns
 returns c = script-none _ _ _ (c .before .before .setup-at .ensures) (not-true _ (c .if1 .taken))
 
--- src/lib.rt:239:5
 on-device-requires : tie.Need-on-device-requires
-on-device-requires c κs = subst (Fine (c .before .before .before .before .before .before .args .script .now)) (sym (c .before .before .before .setup-at .ensures)) (setup-fine (c .before .before .before .before .before .before .args .script .now) (ap (λ (u : Setup). u .whole) (sym (c .before .before .before .setup-at .ensures)) ∙ not-false _ (c .before .if1 .left)))
+on-device-requires c κs =
+    let at-setup-at = c .before .before .before in
+    let at-start = at-setup-at .before .before .before in
+    subst (Fine (at-start .args .script .now)) (sym (at-setup-at .setup-at .ensures))
+    (setup-fine (at-start .args .script .now)
+    (ap (λ (u : Setup). u .whole) (sym (at-setup-at .setup-at .ensures)) ∙ not-false _ (c .before .if1 .left)))
 
--- src/lib.rt:232:1
 same-length : tie.Need-same-length
 same-length c = search needs
 
--- src/lib.rt:232:1
 returns-2 : tie.Need-returns-2
 returns-2 c = script-is _ _ _ (c .before .before .before .before .before .before .setup-at .ensures) _ (not-false _ (c .before .before .before .before .if1 .left)) (c .before .before .on-device .ensures)
 

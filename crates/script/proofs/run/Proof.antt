@@ -20,60 +20,77 @@ Inv-loop bytes₀ phys₀ geometry plan nums₀ names₀ dirs₀ script from out
 abbrev μ-loop : tie.MeasureT-loop
 μ-loop bytes₀ phys₀ geometry plan nums₀ names₀ dirs₀ script from out₀ ran₀ pos₀ bytes phys nums names dirs out ran pos = length script - pos
 
--- src/lib.rt:46:5
 loop-holds : tie.Need-loop-holds Inv-loop μ-loop
-loop-holds c = (refl, refl, refl, refl, refl, refl, going-start _ _ _ _ _ _ (c .before .before .before .before .before .before .before .before .pre .0))
+loop-holds c =
+    let after-start = c .before .before .before .before .before .before .before in
+    (refl, refl, refl, refl, refl, refl, going-start _ _ _ _ _ _ (after-start .before .pre .0))
 
--- src/lib.rt:47:13
 op-at-requires : tie.Need-op-at-requires Inv-loop μ-loop
 op-at-requires c κs = c .loop .inv .6 .inside
 
--- src/lib.rt:50:13
 same-length : tie.Need-same-length Inv-loop μ-loop
 same-length c = c .before .before .loop .inv .0
 
--- src/lib.rt:50:13
 same-length-2 : tie.Need-same-length-2 Inv-loop μ-loop
 same-length-2 c = c .before .before .loop .inv .1
 
--- src/lib.rt:50:13
 same-length-3 : tie.Need-same-length-3 Inv-loop μ-loop
 same-length-3 c = c .before .before .loop .inv .2
 
--- src/lib.rt:50:13
 same-length-4 : tie.Need-same-length-4 Inv-loop μ-loop
 same-length-4 c = c .before .before .loop .inv .3
 
--- src/lib.rt:50:13
 same-length-5 : tie.Need-same-length-5 Inv-loop μ-loop
 same-length-5 c = c .before .before .loop .inv .4
 
--- src/lib.rt:50:13
 same-length-6 : tie.Need-same-length-6 Inv-loop μ-loop
 same-length-6 c = c .before .before .loop .inv .5
 
--- src/lib.rt:50:13
 returns : tie.Need-returns Inv-loop μ-loop
 returns c = (going-end _ _ _ _ _ _ _ _ _ (c .before .before .loop .inv .6) _ (c .before .op-at .ensures) (c .if1 .taken), omega (arith, c .before .before .loop .inv .6 .few, c .before .before .loop .inv .6 .inside))
 
--- src/lib.rt:55:9
 step-requires : tie.Need-step-requires Inv-loop μ-loop
 step-requires c κs =
-    let S = sound-of (c .before .before .before .before .before .before .before .before .before .before .before .before .before .before .before .before .before .before .before .args .script .now) (c .before .before .before .before .before .before .before .before .before .before .loop .pos) _ (λ j. omega (arith, c .before .before .before .before .before .before .before .before .before .before .before .before .shared-slice-known2 .given j)) (c .before .before .before .before .before .before .before .before .before .op-at .ensures) (c .before .before .before .before .before .before .before .before .if1 .left) in
-    (S .held, S .code, S .small, omega (arith, c .before .before .before .before .before .before .before .before .before .before .loop .inv .6 .few, c .before .before .before .before .before .before .before .before .before .before .loop .inv .6 .inside, c .before .before .before .before .before .before .before .before .before .before .before .before .before .before .before .before .before .before .before .pre .1))
+    let after-if1 = c .before .before .before .before .before .before .before in
+    let at-loop = after-if1 .before .before .before in
+    let at-shared-slice-known2 = at-loop .before .before in
+    let at-start = at-shared-slice-known2 .before .before .before .before .before .before .before in
+    let S = sound-of (at-start .args .script .now) (at-loop .loop .pos) _
+    (λ j. omega (arith, at-shared-slice-known2 .shared-slice-known2 .given j)) (after-if1 .before .before .op-at .ensures)
+    (after-if1 .before .if1 .left) in
+    (S .held, S .code, S .small, omega (arith, at-loop .loop .inv .6 .few, at-loop .loop .inv .6 .inside, at-start .pre .1))
 
--- src/lib.rt:46:5
 loop-less : tie.Need-loop-less Inv-loop μ-loop
 loop-less c =
-    let S = sound-of (c .before .before .before .before .before .before .before .before .before .before .before .before .before .before .before .before .before .before .before .before .before .before .before .before .before .before .before .before .before .before .before .before .before .args .script .now) (c .before .before .before .before .before .before .before .before .before .before .before .before .before .before .before .before .before .before .before .before .before .before .before .before .loop .pos) _ (λ j. omega (arith, c .before .before .before .before .before .before .before .before .before .before .before .before .before .before .before .before .before .before .before .before .before .before .before .before .before .before .shared-slice-known2 .given j)) (c .before .before .before .before .before .before .before .before .before .before .before .before .before .before .before .before .before .before .before .before .before .before .before .op-at .ensures) (c .before .before .before .before .before .before .before .before .before .before .before .before .before .before .before .before .before .before .before .before .before .before .if1 .left) in
+    let S = let after-if1-3 = c .before .before .before .before .before .before .before in
+    let after-if1-2 = after-if1-3 .before .before .before .before .before .before .before in
+    let after-if1 = after-if1-2 .before .before .before .before .before .before .before in
+    let at-shared-slice-known2 = after-if1 .before .before .before .before .before in
+    let at-start = at-shared-slice-known2 .before .before .before .before .before .before .before in
+    sound-of (at-start .args .script .now) (after-if1 .before .before .before .loop .pos) _
+    (λ j. omega (arith, at-shared-slice-known2 .shared-slice-known2 .given j)) (after-if1 .before .before .op-at .ensures)
+    (after-if1 .before .if1 .left) in
     omega (arith, S .further, S .held .second-end)
 
--- src/lib.rt:46:5
 loop-again : tie.Need-loop-again Inv-loop μ-loop
 loop-again c =
-    let k = c .before .before .before .before .before .before .before .before .before .before .before .before .before .step .kept in
-    let i = c .before .before .before .before .before .before .before .before .before .before .before .before .before .before .before .before .before .before .before .before .before .before .before .before .loop .inv in
-    (k .0 ∙ i .0, k .1 .0 ∙ i .1, k .1 .1 .1 .1 .1 .0 ∙ i .2, k .1 .1 .1 .1 .1 .1 .0 ∙ i .3, k .1 .1 .1 .1 .1 .1 .1 .0 ∙ i .4, k .1 .1 .1 .1 .1 .1 .1 .1 .1 .1 .1 .0 ∙ i .5, going-on _ _ _ _ _ _ _ _ _ (i .6) _ (c .before .before .before .before .before .before .before .before .before .before .before .before .before .before .before .before .before .before .before .before .before .before .before .op-at .ensures) _ _ (λ j. omega (arith, c .before .before .before .before .before .before .before .before .before .before .before .before .before .before .before .before .before .before .before .before .before .before .before .before .before .before .shared-slice-known2 .given j)) (c .before .before .before .before .before .before .before .before .before .before .before .before .before .before .before .before .before .before .before .before .before .before .if1 .left) (c .before .before .before .before .before .before .before .before .before .before .before .before .before .step .ensures .0) (c .before .before .before .before .before .before .before .before .before .before .before .before .before .step .ensures .1))
+    let after-step = c .before .before .before .before .before .before .before in
+    let at-step = after-step .before .before .before .before .before .before in
+    let after-if1 = at-step .before .before .before .before .before .before .before in
+    let at-if1 = after-if1 .before .before in
+    let at-shared-slice-known2 = at-if1 .before .before .before .before in
+    let k = at-step .step .kept in
+    let i = at-if1 .before .before .loop .inv in (
+      k .0 ∙ i .0,
+      k .1 .0 ∙ i .1,
+      k .1 .1 .1 .1 .1 .0 ∙ i .2,
+      k .1 .1 .1 .1 .1 .1 .0 ∙ i .3,
+      k .1 .1 .1 .1 .1 .1 .1 .0 ∙ i .4,
+      k .1 .1 .1 .1 .1 .1 .1 .1 .1 .1 .1 .0 ∙ i .5,
+      going-on _ _ _ _ _ _ _ _ _ (i .6) _ (at-if1 .before .op-at .ensures) _ _
+          (λ j. omega (arith, at-shared-slice-known2 .shared-slice-known2 .given j)) (at-if1 .if1 .left) (at-step .step .ensures .0)
+          (at-step .step .ensures .1),
+    )
 
 pub run-spec : {M : Type 1} → statement M
 run-spec =

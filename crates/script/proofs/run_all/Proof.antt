@@ -9,45 +9,68 @@ use Rattle.script.proofs.run.Reads as run-reads
 use Rattle.tables.proofs.put_device.Reads as put-device-reads
 use Rattle.tables.proofs.put_record.Reads as put-record-reads
 
--- src/lib.rt:93:9
 run-requires : tie.Need-run-requires
 run-requires c κs = search needs
 
--- src/lib.rt:109:9
 put-record-requires : tie.Need-put-record-requires
-put-record-requires c κs = omega (arith, c .before .before .before .before .before .before .before .before .before .before .before .before .before .before .before .before .before .before .run .ensures .1, c .before .before .before .before .before .before .before .before .before .before .before .before .before .before .before .before .before .before .before .before .before .before .before .before .before .before .before .before .before .before .before .before .before .pre .1)
+put-record-requires c κs = omega (
+  arith,
+  (let after-run-2 = c .before .before .before .before .before .before .before in
+      let after-run = after-run-2 .before .before .before .before .before .before .before in
+      let at-run = after-run .before .before .before .before in
+      at-run .run .ensures .1),
+  (let after-start-4 = c .before .before .before .before .before .before .before in
+      let after-start-3 = after-start-4 .before .before .before .before .before .before .before in
+      let after-start-2 = after-start-3 .before .before .before .before .before .before .before in
+      let after-start = after-start-2 .before .before .before .before .before .before .before in
+      let at-start = after-start .before .before .before .before .before in
+      at-start .pre .1),
+)
 
--- src/lib.rt:110:9
 put-device-requires : tie.Need-put-device-requires
-put-device-requires c κs = omega (arith, c .before .before .before .before .before .before .before .before .before .before .before .before .before .before .before .before .before .before .before .before .before .before .before .before .run .ensures .1, c .before .before .before .before .before .before .before .before .before .before .before .before .before .before .before .before .before .before .before .before .before .before .before .before .before .before .before .before .before .before .before .before .before .before .before .before .before .before .before .pre .1, c .before .before .before .before .before .put-record .ensures .1)
+put-device-requires c κs = omega (
+  arith,
+  (let at-put-record = c .before .before .before .before .before in
+      let after-run-2 = at-put-record .before .before .before .before .before .before .before in
+      let after-run = after-run-2 .before .before .before .before .before .before .before in
+      let at-run = after-run .before .before .before .before .before in
+      at-run .run .ensures .1),
+  (let at-put-record = c .before .before .before .before .before in
+      let after-start-4 = at-put-record .before .before .before .before .before .before .before in
+      let after-start-3 = after-start-4 .before .before .before .before .before .before .before in
+      let after-start-2 = after-start-3 .before .before .before .before .before .before .before in
+      let after-start = after-start-2 .before .before .before .before .before .before .before in
+      let at-start = after-start .before .before .before .before .before .before in
+      at-start .pre .1),
+  c .before .before .before .before .before .put-record .ensures .1,
+)
 
--- src/lib.rt:76:1
 same-length : tie.Need-same-length
 same-length c = search needs
 
--- src/lib.rt:76:1
 same-length-2 : tie.Need-same-length-2
 same-length-2 c = search needs
 
--- src/lib.rt:76:1
 same-length-3 : tie.Need-same-length-3
 same-length-3 c = search needs
 
--- src/lib.rt:76:1
 same-length-4 : tie.Need-same-length-4
 same-length-4 c = search needs
 
--- src/lib.rt:76:1
 same-length-5 : tie.Need-same-length-5
 same-length-5 c = search needs
 
--- src/lib.rt:76:1
 same-length-6 : tie.Need-same-length-6
 same-length-6 c = search needs
 
--- src/lib.rt:76:1
 returns : tie.Need-returns
-returns c = tables-are _ _ _ _ _ _ (c .before .before .before .before .before .before .before .before .before .before .before .before .before .before .before .before .before .before .before .before .before .before .before .before .before .before .before .run .ensures .0) (c .before .before .before .before .before .before .before .before .put-record .ensures .0) (c .before .before .put-device .ensures)
+returns c =
+    let at-put-device = c .before .before in
+    let at-put-record = at-put-device .before .before .before .before .before .before in
+    let after-run-2 = at-put-record .before .before .before .before .before .before .before in
+    let after-run = after-run-2 .before .before .before .before .before .before .before in
+    let at-run = after-run .before .before .before .before .before in
+    tables-are _ _ _ _ _ _ (at-run .run .ensures .0) (at-put-record .put-record .ensures .0) (at-put-device .put-device .ensures)
 
 pub run-all-spec : {M : Type 1} → statement M
 run-all-spec =

@@ -4,12 +4,12 @@ use borrow.Author.Needs.{needs}
 use mathlib.Core.Path.{_≡_, refl, _∙_, ap}
 use mathlib.Core.Logic.{⊎-elim}
 use lib.ListN.{length}
-use Rattle.slots.specs.Slots.{Fits}
+use Rattle.slots.specs.Slots.{InBuffers}
 use Rattle.slots.proofs.answer_all.Statement.{statement}
 use Rattle.slots.proofs.answer_all.Tie as tie
 
 abbrev Inv-loop : tie.InvT-loop
-Inv-loop bytes₀ phys₀ nums₀ names₀ dirs₀ line₀ input₀ out₀ r₀ turns₀ bytes phys nums names dirs line input out r turns = Fits (length line) (length out) r × (length bytes ≡ length bytes₀) × (length phys ≡ length phys₀) × (length nums ≡ length nums₀) × (length names ≡ length names₀) × (length dirs ≡ length dirs₀) × (length line ≡ length line₀) × (length input ≡ length input₀) × (length out ≡ length out₀)
+Inv-loop bytes₀ phys₀ nums₀ names₀ dirs₀ line₀ input₀ out₀ r₀ turns₀ bytes phys nums names dirs line input out r turns = InBuffers (length line) (length out) r × (length bytes ≡ length bytes₀) × (length phys ≡ length phys₀) × (length nums ≡ length nums₀) × (length names ≡ length names₀) × (length dirs ≡ length dirs₀) × (length line ≡ length line₀) × (length input ≡ length input₀) × (length out ≡ length out₀)
 
 abbrev μ-loop : tie.MeasureT-loop
 μ-loop bytes₀ phys₀ nums₀ names₀ dirs₀ line₀ input₀ out₀ r₀ turns₀ bytes phys nums names dirs line input out r turns = turns

@@ -2,13 +2,13 @@
 use Prim.Native.Nat.{_-_}
 use mathlib.Core.Path.{_≡_, refl, _∙_}
 use lib.ListN.{length}
-use Rattle.slots.specs.Slots.{Fits}
+use Rattle.slots.specs.Slots.{InBuffers}
 use native.Mathlib.Omega.{arith}
 use Rattle.slots.proofs.answer_block.Statement.{statement}
 use Rattle.slots.proofs.answer_block.Tie as tie
 
 abbrev Inv-loop : tie.InvT-loop
-Inv-loop bytes₀ phys₀ nums₀ names₀ dirs₀ line₀ input out₀ r₀ bytes phys nums names dirs line out r = Fits (length line) (length out) r × (length bytes ≡ length bytes₀) × (length phys ≡ length phys₀) × (length nums ≡ length nums₀) × (length names ≡ length names₀) × (length dirs ≡ length dirs₀) × (length line ≡ length line₀) × (length out ≡ length out₀)
+Inv-loop bytes₀ phys₀ nums₀ names₀ dirs₀ line₀ input out₀ r₀ bytes phys nums names dirs line out r = InBuffers (length line) (length out) r × (length bytes ≡ length bytes₀) × (length phys ≡ length phys₀) × (length nums ≡ length nums₀) × (length names ≡ length names₀) × (length dirs ≡ length dirs₀) × (length line ≡ length line₀) × (length out ≡ length out₀)
 
 abbrev μ-loop : tie.MeasureT-loop
 μ-loop bytes₀ phys₀ nums₀ names₀ dirs₀ line₀ input out₀ r₀ bytes phys nums names dirs line out r = length input - r .at

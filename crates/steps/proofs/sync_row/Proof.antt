@@ -20,7 +20,8 @@ add-put-header : tie.Need-add-put-header
 add-put-header c =
     let at-header = c .before .before in
     let start = at-header .before .before .before .before .before .before .before .before in
-    omega (arith, row-part _ _ (start .pre .0) _ (start .pre .1 .0) _ (at-header .row-header .ensures) .0)
+    let names = start .good .1 .1 .1 .1 .1 .1 .0 .0 in
+    omega (arith, row-part _ _ (start .pre .0) _ (start .pre .1 .0) _ (at-header .row-header .ensures) .0, names)
 
 part-put-header-end : tie.Need-part-put-header-end
 part-put-header-end c =

@@ -5,13 +5,15 @@ use lib.ListN.{length, take}
 use lib.Seq.{length-take-le}
 use Rattle.le.specs.Le.{le}
 use Rattle.le.specs.Fields.{length-le}
+use Rattle.lists.specs.Blocks.{cat}
+use Rattle.lists.specs.Runs.{range}
 use Rattle.rows.specs.Rows.{rowsOf}
 use Rattle.dirs.specs.Rows.{dirsOf}
 use Rattle.table.specs.State.{Bufs, bufs}
 use Rattle.table.specs.Laws.{pool-rows}
 use Rattle.writer.specs.Writer.{shown, pours, runOf}
 use Rattle.writer.specs.Laws.{after-pours, pours-then}
-use Rattle.tables.specs.Tables.{each, rowShown, dirsShown}
+use Rattle.tables.specs.Tables.{rowShown, dirsShown}
 use Rattle.tables.proofs.Turns.{few-held, free-is, few-free, few-dirs, dirs-fit, pool-is}
 use native.Mathlib.Omega.{arith}
 use borrow.Author.Needs.{needs}
@@ -73,7 +75,7 @@ returns : tie.Need-returns
 returns c =
     let q = c .before .before .before .before .before .before .before .before .before .before .before .before .before .before .before .before .before .before .before .before .before .before .before .before .before .before .before .before .before .before .before .args .pool in
     let queue : List ℕ = take (q .free) (q .queue) in
-    let rows : List ℕ = each (rowShown queue (rowsOf (c .before .before .before .before .before .before .before .before .before .before .before .before .before .before .before .before .before .before .before .before .before .before .before .before .before .before .before .before .before .before .before .args .nums .now) (c .before .before .before .before .before .before .before .before .before .before .before .before .before .before .before .before .before .before .before .before .before .before .before .before .before .before .before .before .before .before .before .args .names .now) (q .held))) 0 (q .held) in
+    let rows : List ℕ = cat (rowShown queue (rowsOf (c .before .before .before .before .before .before .before .before .before .before .before .before .before .before .before .before .before .before .before .before .before .before .before .before .before .before .before .before .before .before .before .args .nums .now) (c .before .before .before .before .before .before .before .before .before .before .before .before .before .before .before .before .before .before .before .before .before .before .before .before .before .before .before .before .before .before .before .args .names .now) (q .held))) (range 0 (q .held)) in
     let ds : List ℕ = dirsShown (dirsOf (c .before .before .before .before .before .before .before .before .before .before .before .before .before .before .before .before .before .before .before .before .before .before .before .before .before .before .before .before .before .before .before .args .dirs .now) (q .dirs)) in
     let o = shown (c .before .before .before .before .before .before .before .before .before .before .before .before .before .before .before .before .before .before .before .before .before .before .before .before .before .before .before .before .before .before .before .args .out .now) (c .before .before .before .before .before .before .before .before .before .before .before .before .before .before .before .before .before .before .before .before .before .before .before .before .before .before .before .before .before .before .before .args .at) in (
       pours-then _ ds o (pours-then _ queue o (pours-then _ (le 1 (q .free)) o (pours-then _ rows o (pours-then (le 8 (q .counter)) (le 1 (q .held)) o (c .before .before .before .before .before .before .before .before .before .before .before .before .before .before .before .before .before .before .before .before .before .before .before .before .put-le .ensures) (c .before .before .before .before .before .before .before .before .before .before .before .before .before .before .before .before .before .before .before .before .put-le2 .ensures)) (c .before .before .before .before .before .before .before .before .before .before .before .before .before .before .before .put-rows .ensures .0)) (c .before .before .before .before .before .before .before .before .before .before .before .put-le3 .ensures)) (c .before .before .before .before .before .before .put-bytes .ensures)) (c .before .before .put-dirs .ensures .0)

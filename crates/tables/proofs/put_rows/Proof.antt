@@ -1,58 +1,50 @@
+-- The invariant: what is left to put out makes the whole. `each-more` passes a row.
 use mathlib.Core.Path.{_∙_, refl, _≡_}
 use mathlib.Core.List.{List}
 use Prim.Native.Nat.{ℕ, _*_, _+_, _-_, _≤_, _<_}
 use native.Mathlib.Nat.{sub-zero}
 use lib.ListN.{length}
+use Rattle.lists.specs.Blocks.{cat}
+use Rattle.lists.specs.Runs.{range}
 use Rattle.rows.specs.Rows.{rowsOf}
 use Rattle.writer.specs.Writer.{Shown, shown, pours}
-use Rattle.tables.specs.Tables.{each, rowShown}
-use Rattle.tables.specs.Laws.{each-more, each-end}
-use Rattle.tables.proofs.Turns.{turn, done}
+use Rattle.tables.specs.Tables.{rowShown}
+use Rattle.tables.proofs.Turns.{turn, done, each-more, each-end}
 use native.Mathlib.Omega.{arith}
 use Rattle.tables.proofs.put_rows.Statement.{statement}
 use Rattle.tables.proofs.put_rows.Tie as tie
-use Rattle.tables.proofs.put_rows.Reads as reads
-use Rattle.tables.proofs.put_rows.Lts as lts
-use Rattle.tables.proofs.put_row.Reads as put-row-reads
 
 abbrev Inv-loop : tie.InvT-loop
-Inv-loop nums names cap n queue out₀ at a₀ i₀ out a i = (i ≤ n) × (a ≤ at + i * 512) × (length out ≡ length out₀) × (pours (each (rowShown queue (rowsOf nums names n)) i (n - i)) (shown out a) ≡ pours (each (rowShown queue (rowsOf nums names n)) 0 n) (shown out₀ at))
+Inv-loop nums names cap n queue out₀ at a₀ i₀ out a i = (i ≤ n) × (a ≤ at + i * 512) × (length out ≡ length out₀) × (pours (cat (rowShown queue (rowsOf nums names n)) (range i (n - i))) (shown out a) ≡ pours (cat (rowShown queue (rowsOf nums names n)) (range 0 n)) (shown out₀ at))
 
 abbrev μ-loop : tie.MeasureT-loop
 μ-loop nums names cap n queue out₀ at a₀ i₀ out a i = n - i
 
--- src/lib.rt:96:5
 loop-holds : tie.Need-loop-holds Inv-loop μ-loop
 loop-holds c = (omega arith, omega arith, refl, rw sub-zero)
 
--- src/lib.rt:97:9
 put-row-requires : tie.Need-put-row-requires Inv-loop μ-loop
 put-row-requires c κs = (c .before .before .before .before .before .before .before .pre .0, omega arith, omega (arith, c .before .before .loop .inv .1, c .before .before .before .before .before .before .before .pre .1, c .before .before .before .before .before .before .before .pre .2))
 
--- src/lib.rt:98:9
 add-i : tie.Need-add-i Inv-loop μ-loop
 add-i c = omega arith
 
--- src/lib.rt:96:5
 loop-less : tie.Need-loop-less Inv-loop μ-loop
 loop-less c = omega arith
 
--- src/lib.rt:96:5
 loop-again : tie.Need-loop-again Inv-loop μ-loop
 loop-again c =
     let a = c .before .before .before .before .before .loop in
     let f : ℕ → List ℕ = rowShown (c .before .before .before .before .before .before .before .before .before .before .args .queue .now) (rowsOf (c .before .before .before .before .before .before .before .before .before .before .args .nums .now) (c .before .before .before .before .before .before .before .before .before .before .args .names .now) (c .before .before .before .before .before .before .before .before .before .before .args .n)) in
-    (omega arith, omega (arith, a .inv .1, c .before .before .put-row .ensures .1), c .before .before .put-row .kept .1 .1 .1 .1 .1 .1 .0 ∙ a .inv .2, turn (f (a .i)) (each f (a .i + 1) (c .before .before .before .before .before .before .before .before .before .before .args .n - (a .i + 1))) (each f (a .i) (c .before .before .before .before .before .before .before .before .before .before .args .n - a .i)) (shown (a .out) (a .a)) (each-more f (c .before .before .before .before .before .before .before .before .before .before .args .n) (a .i) (omega arith)) (c .before .before .put-row .ensures .0) ∙ a .inv .3)
+    (omega arith, omega (arith, a .inv .1, c .before .before .put-row .ensures .1), c .before .before .put-row .kept .1 .1 .1 .1 .1 .1 .0 ∙ a .inv .2, turn (f (a .i)) (cat f (range (a .i + 1) (c .before .before .before .before .before .before .before .before .before .before .args .n - (a .i + 1)))) (cat f (range (a .i) (c .before .before .before .before .before .before .before .before .before .before .args .n - a .i))) (shown (a .out) (a .a)) (each-more f (c .before .before .before .before .before .before .before .before .before .before .args .n) (a .i) (omega arith)) (c .before .before .put-row .ensures .0) ∙ a .inv .3)
 
--- src/lib.rt:81:1
 same-length : tie.Need-same-length Inv-loop μ-loop
 same-length c = c .before .loop .inv .2
 
--- src/lib.rt:81:1
 returns : tie.Need-returns Inv-loop μ-loop
 returns c =
     let f : ℕ → List ℕ = rowShown (c .before .before .before .before .before .before .args .queue .now) (rowsOf (c .before .before .before .before .before .before .args .nums .now) (c .before .before .before .before .before .before .args .names .now) (c .before .before .before .before .before .before .args .n)) in
-    (done (each f (c .before .loop .i) (c .before .before .before .before .before .before .args .n - c .before .loop .i)) (shown (c .before .loop .out) (c .before .loop .a)) (each-end f (c .before .before .before .before .before .before .args .n) (c .before .loop .i) (omega arith)) ∙ c .before .loop .inv .3, omega (arith, c .before .loop .inv .1))
+    (done (cat f (range (c .before .loop .i) (c .before .before .before .before .before .before .args .n - c .before .loop .i))) (shown (c .before .loop .out) (c .before .loop .a)) (each-end f (c .before .before .before .before .before .before .args .n) (c .before .loop .i) (omega arith)) ∙ c .before .loop .inv .3, omega (arith, c .before .loop .inv .1))
 
 pub put-rows-spec : {M : Type 1} → statement M
 put-rows-spec =

@@ -1,0 +1,33 @@
+-- At a mount all is made zero, else all stays.
+use mathlib.Core.Path.{refl}
+use Rattle.mount.proofs.Mounting.{zeroed}
+use Rattle.table.specs.State.{bufs}
+use Rattle.calls_gate.proofs.Tests.{silent-is, refuses-mount, refuses-other}
+use borrow.Author.Needs.{needs}
+use Rattle.calls_gate.proofs.refuse.Statement.{statement}
+use Rattle.calls_gate.proofs.refuse.Tie as tie
+
+returns : tie.Need-returns
+returns c =
+    let z = zeroed (c .before .before .before .before .before .before .before .before .before .before .before .before .before .before .before .before .before .before .before .args .dirs .now) _ _ _ refl refl (c .before .before .before .before .zero-in .ensures) in
+    (silent-is _ _ _ _ _ (c .silent .ensures) (c .before .before .before .before .before .before .before .before .before .before .before .before .before .before .before .answer-of .ensures), refuses-mount _ _ (c .before .before .before .before .before .before .before .before .before .before .before .before .before .before .takes-of .ensures) (bufs (c .before .before .before .before .before .before .before .before .before .before .before .before .before .before .before .before .before .before .before .args .pool) (c .before .before .before .before .before .before .before .before .before .before .before .before .before .before .before .before .before .before .before .args .nums .now) (c .before .before .before .before .before .before .before .before .before .before .before .before .before .before .before .before .before .before .before .args .names .now) (c .before .before .before .before .before .before .before .before .before .before .before .before .before .before .before .before .before .before .before .args .dirs .now)) _ _ _ _ (c .silent .ensures) _ _ _ (c .before .before .before .before .before .before .before .before .before .before .before .before .before .if1 .taken) (c .before .zero .ensures) (c .before .before .before .before .before .before .before .before .before .before .clear-rows .ensures .0) (c .before .before .before .before .before .before .before .before .before .before .clear-rows .ensures .1) z)
+
+returns-2 : tie.Need-returns-2
+returns-2 c = (silent-is _ _ _ _ _ (c .silent2 .ensures) (c .before .before .before .answer-of .ensures), refuses-other _ _ (c .before .before .takes-of .ensures) (bufs (c .before .before .before .before .before .before .before .args .pool) (c .before .before .before .before .before .before .before .args .nums .now) (c .before .before .before .before .before .before .before .args .names .now) (c .before .before .before .before .before .before .before .args .dirs .now)) _ _ _ _ (c .silent2 .ensures) (c .before .if1 .left) refl)
+
+pub refuse-spec : {M : Type 1} → statement M
+refuse-spec =
+    tie.close
+    (tie.spec
+    (λ c κs. search needs)
+    (λ c κs. search needs)
+    (λ c κs. search needs)
+    (λ c κs. search needs)
+    (λ c κs. search needs)
+    (λ c κs. search needs)
+    (λ c. search needs)
+    (λ c. search needs)
+    (λ c. search needs)
+    returns
+    (λ c κs. search needs)
+    returns-2)

@@ -1,0 +1,2 @@
+-- What an arm of the match comes to.
+pub mod Arms

@@ -1,0 +1,161 @@
+-- One arm for each call: `ready` is what it needs, and `arm` says that the one that is asked for was made. No other call is on a path.
+use Rattle.calls_gate.specs.Table.{takesOf}
+use Rattle.calls_gate.specs.Calls.{opened, reading, listed, found, described, innerM}
+use Rattle.calls_gate.proofs.Passed.{ready}
+use Rattle.calls_path.proofs.Arms.{arm, quiet-is, made-is, no-other}
+use mathlib.Core.Path.{refl, ap}
+use borrow.Author.Needs.{needs}
+use Rattle.calls_path.proofs.on_path.Statement.{statement}
+use Rattle.calls_path.proofs.on_path.Tie as tie
+
+open-write-requires : tie.Need-open-write-requires
+unfolding takesOf
+open-write-requires c κs = ready _ _ _ _ _ _ (c .before .before .before .before .before .before .before .before .before .before .before .before .before .before .before .before .before .pre .0) (c .before .before .before .before .before .before .call .given .1) refl
+
+returns : tie.Need-returns
+unfolding innerM
+returns c = arm _ _ _ _ _ _ _ _ _ (c .before .before .before .before .before .before .before .before .before .before .before .before .before .before .before .before .before .before .before .call .given .1) (ap (opened (c .before .before .before .before .before .before .before .before .before .before .before .before .before .before .before .before .before .before .before .before .before .before .before .before .before .before .before .before .before .before .args .buf .now)) (c .before .before .before .before .before .before .before .before .before .before .before .before .open-write .ensures))
+
+open-read-requires : tie.Need-open-read-requires
+unfolding takesOf
+open-read-requires c κs = ready _ _ _ _ _ _ (c .before .before .before .before .before .before .before .before .before .before .before .before .before .before .pre .0) (c .before .before .before .enum-told .given .1) refl .pool
+
+returns-2 : tie.Need-returns-2
+unfolding innerM
+returns-2 c = arm _ _ _ _ _ _ _ _ _ (c .before .before .before .before .enum-told .given .1) (ap (reading (c .before .before .before .before .before .before .before .before .before .before .before .before .before .before .before .args .buf .now) _) (c .open-read .ensures))
+
+sync-dir-requires : tie.Need-sync-dir-requires
+unfolding takesOf
+sync-dir-requires c κs = ready _ _ _ _ _ _ (c .before .before .before .before .before .before .before .before .before .before .before .before .before .before .before .before .pre .0) (c .before .before .before .before .before .enum-told2 .given .1) refl
+
+returns-3 : tie.Need-returns-3
+unfolding innerM
+returns-3 c = arm _ _ _ _ _ _ _ _ _ (c .before .before .before .before .before .before .before .before .before .before .before .before .before .before .enum-told2 .given .1) (quiet-is _ _ _ _ _ _ _ _ _ _ (c .quiet .ensures) _ (c .before .before .before .before .before .before .before .before .sync-dir .ensures))
+
+rename-requires : tie.Need-rename-requires
+unfolding takesOf
+rename-requires c κs = ready _ _ _ _ _ _ (c .before .before .before .before .before .before .before .before .before .before .before .before .before .before .before .before .pre .0) (c .before .before .before .before .before .enum-told3 .given .1) refl
+
+returns-4 : tie.Need-returns-4
+unfolding innerM
+returns-4 c = arm _ _ _ _ _ _ _ _ _ (c .before .before .before .before .before .before .before .before .before .before .before .before .before .before .before .before .before .before .before .enum-told3 .given .1) (quiet-is _ _ _ _ _ _ _ _ _ _ (c .quiet2 .ensures) _ (c .before .before .before .before .before .before .before .before .before .before .before .before .before .rename .ensures))
+
+remove-file-requires : tie.Need-remove-file-requires
+unfolding takesOf
+remove-file-requires c κs = ready _ _ _ _ _ _ (c .before .before .before .before .before .before .before .before .before .before .before .before .before .before .before .before .pre .0) (c .before .before .before .before .before .enum-told4 .given .1) refl
+
+returns-5 : tie.Need-returns-5
+unfolding innerM
+returns-5 c = arm _ _ _ _ _ _ _ _ _ (c .before .before .before .before .before .before .before .before .before .before .before .before .before .before .before .before .before .enum-told4 .given .1) (quiet-is _ _ _ _ _ _ _ _ _ _ (c .quiet3 .ensures) _ (c .before .before .before .before .before .before .before .before .before .before .before .remove-file .ensures))
+
+create-dir-all-requires : tie.Need-create-dir-all-requires
+unfolding takesOf
+create-dir-all-requires c κs = ready _ _ _ _ _ _ (c .before .before .before .before .before .before .before .before .before .before .before .before .before .before .pre .0) (c .before .before .before .enum-told5 .given .1) refl .pool
+
+returns-6 : tie.Need-returns-6
+unfolding innerM
+returns-6 c = arm _ _ _ _ _ _ _ _ _ (c .before .before .before .before .before .before .before .before .enum-told5 .given .1) (made-is _ _ _ _ _ _ _ _ _ _ (c .quiet4 .ensures) (c .before .before .before .before .before .before .before .before .before .before .before .before .before .before .before .before .before .before .before .args .pool) (c .before .before .before .before .before .before .before .before .before .before .before .before .before .before .before .before .before .before .before .args .dirs .now) _ (c .before .before .before .before .create-dir-all .ensures))
+
+read-dir-requires : tie.Need-read-dir-requires
+unfolding takesOf
+read-dir-requires c κs = ready _ _ _ _ _ _ (c .before .before .before .before .before .before .before .before .before .before .before .before .before .before .before .pre .0) (c .before .before .before .before .enum-told6 .given .1) refl .pool
+
+returns-7 : tie.Need-returns-7
+unfolding innerM
+returns-7 c = arm _ _ _ _ _ _ _ _ _ (c .before .before .before .before .before .before .before .enum-told6 .given .1) (ap (listed _) (c .before .before .read-dir .ensures))
+
+exists-requires : tie.Need-exists-requires
+unfolding takesOf
+exists-requires c κs = ready _ _ _ _ _ _ (c .before .before .before .before .before .before .before .before .before .before .before .before .before .before .pre .0) (c .before .before .before .enum-told7 .given .1) refl .pool
+
+returns-8 : tie.Need-returns-8
+unfolding innerM
+returns-8 c = arm _ _ _ _ _ _ _ _ _ (c .before .before .before .before .enum-told7 .given .1) (ap (found (c .before .before .before .before .before .before .before .before .before .before .before .before .before .before .before .args .buf .now) _) (c .exists .ensures))
+
+metadata-requires : tie.Need-metadata-requires
+unfolding takesOf
+metadata-requires c κs = ready _ _ _ _ _ _ (c .before .before .before .before .before .before .before .before .before .before .before .before .before .before .pre .0) (c .before .before .before .enum-told8 .given .1) refl .pool
+
+returns-9 : tie.Need-returns-9
+unfolding innerM
+returns-9 c = arm _ _ _ _ _ _ _ _ _ (c .before .before .before .before .enum-told8 .given .1) (ap (described (c .before .before .before .before .before .before .before .before .before .before .before .before .before .before .before .args .buf .now) _) (c .metadata .ensures))
+
+returns-10 : tie.Need-returns-10
+returns-10 c =
+    let at-match = c .before in
+    let at-args = at-match .before .before .before .before .before .before .before .before .before .before in
+    absurd (no-other (at-args .args .call) (at-match .match .keys10) (at-args .pre .1))
+
+pub on-path-spec : {M : Type 1} → statement M
+on-path-spec =
+    tie.close
+    (tie.spec
+    (λ c. search needs)
+    open-write-requires
+    (λ c. c .before .before .before .before .before .before .before .before .before .before .before .before .open-write .kept .0)
+    (λ c. c .before .before .before .before .before .before .before .before .before .before .before .before .open-write .kept .1 .0)
+    (λ c. c .before .before .before .before .before .before .before .before .before .before .before .before .open-write .kept .1 .1 .1 .1 .1 .0)
+    (λ c. c .before .before .before .before .before .before .before .before .before .before .before .before .open-write .kept .1 .1 .1 .1 .1 .1 .0)
+    (λ c. c .before .before .before .before .before .before .before .before .before .before .before .before .open-write .kept .1 .1 .1 .1 .1 .1 .1 .0)
+    returns
+    (λ c. search needs)
+    open-read-requires
+    (λ c. refl)
+    (λ c. refl)
+    (λ c. refl)
+    returns-2
+    (λ c. search needs)
+    sync-dir-requires
+    (λ c κs. tt)
+    (λ c. c .before .before .before .before .before .before .before .before .sync-dir .kept .0)
+    (λ c. c .before .before .before .before .before .before .before .before .sync-dir .kept .1 .0)
+    (λ c. c .before .before .before .before .before .before .before .before .sync-dir .kept .1 .1 .1 .1 .1 .0)
+    (λ c. refl)
+    (λ c. refl)
+    returns-3
+    (λ c. search needs)
+    rename-requires
+    (λ c κs. tt)
+    (λ c. c .before .before .before .before .before .before .before .before .before .before .before .before .before .rename .kept .0)
+    (λ c. c .before .before .before .before .before .before .before .before .before .before .before .before .before .rename .kept .1 .0)
+    (λ c. c .before .before .before .before .before .before .before .before .before .before .before .before .before .rename .kept .1 .1 .1 .1 .1 .0)
+    (λ c. c .before .before .before .before .before .before .before .before .before .before .before .before .before .rename .kept .1 .1 .1 .1 .1 .1 .0)
+    (λ c. c .before .before .before .before .before .before .before .before .before .before .before .before .before .rename .kept .1 .1 .1 .1 .1 .1 .1 .0)
+    returns-4
+    (λ c. search needs)
+    remove-file-requires
+    (λ c κs. tt)
+    (λ c. c .before .before .before .before .before .before .before .before .before .before .before .remove-file .kept .0)
+    (λ c. c .before .before .before .before .before .before .before .before .before .before .before .remove-file .kept .1 .0)
+    (λ c. c .before .before .before .before .before .before .before .before .before .before .before .remove-file .kept .1 .1 .1 .1 .1 .0)
+    (λ c. c .before .before .before .before .before .before .before .before .before .before .before .remove-file .kept .1 .1 .1 .1 .1 .1 .0)
+    (λ c. refl)
+    returns-5
+    (λ c. search needs)
+    create-dir-all-requires
+    (λ c κs. tt)
+    (λ c. refl)
+    (λ c. refl)
+    (λ c. c .before .before .before .before .create-dir-all .kept .1 .1 .0)
+    returns-6
+    (λ c. search needs)
+    read-dir-requires
+    (λ c. refl)
+    (λ c. refl)
+    (λ c. refl)
+    (λ c. c .before .before .read-dir .kept .1 .1 .1 .1 .1 .0)
+    returns-7
+    (λ c. search needs)
+    exists-requires
+    (λ c. refl)
+    (λ c. refl)
+    (λ c. refl)
+    returns-8
+    (λ c. search needs)
+    metadata-requires
+    (λ c. refl)
+    (λ c. refl)
+    (λ c. refl)
+    returns-9
+    (λ c κs. tt)
+    returns-10)

@@ -1,0 +1,2 @@
+-- The result of a call that tells nothing.
+pub mod Quiet

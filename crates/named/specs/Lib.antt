@@ -1,3 +1,0 @@
-pub mod Public
-pub mod Stays
-pub mod Examples

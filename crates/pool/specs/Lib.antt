@@ -1,0 +1,2 @@
+-- What the face is asked, what it leaves, and its contract.
+pub mod Face
