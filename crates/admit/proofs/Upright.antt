@@ -22,11 +22,11 @@ use Rattle.path.specs.SpellingLaws.{normal-by-bytes}
 use Rattle.path.proofs.Slashes.{short}
 use Rattle.dirs.specs.Dirs.{hasPath}
 use Rattle.dirs.specs.Rows.{dirAt, dirsOf}
-use Rattle.dirs.specs.Joined.{in-has, has-one, has-in, has-normal}
+use Rattle.dirs.proofs.Joined.{in-has, has-one, has-in, has-normal}
 use Rattle.admit.specs.Test.{part, firstHeld, upHeld, dirOk}
 use Rattle.admit.specs.Keys.{isDir, hasDir, Tail, Upright, Fine, Judged}
-use Rattle.admit.specs.Forms.{both, and-of, part-rest}
-use Rattle.admit.specs.Pools.{in-dirs, dirs-in, dir-says, normals}
+use Rattle.admit.proofs.FlatForms.{both, and-of, part-rest}
+use Rattle.admit.proofs.Exactly.{in-dirs, dirs-in, dir-says, normals}
 use Rattle.admit.proofs.Turns.{any-one}
 
 -- ---- a text cut at a slash

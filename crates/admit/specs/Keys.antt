@@ -5,6 +5,7 @@ use mathlib.Core.Logic.{_⊎_}
 use mathlib.Core.List.{List}
 use mathlib.Core.Bool.{Bool, true, false}
 use lib.ListN.{length, getD}
+use Rattle.limits.specs.Limits.{maxPath, rowWidth, dirWidth, lastCounter}
 use Rattle.lists.specs.Runs.{allOf, anyOf}
 use Rattle.lists.specs.Same.{sameBytes}
 use Rattle.path.specs.Path.{normal}
@@ -20,10 +21,10 @@ pub record Sized (q : Pool) (l n d : ℕ) : Type 0 where
   pub dirs : q .dirs ≤ q .chosen .«dir_rows»
   pub free : q .free ≤ 64
   pub begun : 1 ≤ q .counter
-  pub counted : q .counter ≤ 2 ^ 63
-  pub nums-long : l ≡ q .chosen .rows * 4
-  pub names-long : n ≡ q .chosen .rows * 480
-  pub dirs-long : d ≡ q .chosen .«dir_rows» * 482
+  pub counted : q .counter ≤ lastCounter
+  pub nums-long : l ≡ q .chosen .rows * rowWidth
+  pub names-long : n ≡ q .chosen .rows * maxPath
+  pub dirs-long : d ≡ q .chosen .«dir_rows» * dirWidth
   pub queue-long : length (q .queue) ≡ 64
 
 -- ---- keys

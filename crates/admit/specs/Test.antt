@@ -5,6 +5,7 @@ use mathlib.Core.List.{List, [], _∷_}
 use mathlib.Core.Bool.{Bool, true, not, cond, _&&_}
 use lib.Dec.{eqb, ltb, leb}
 use lib.ListN.{length, take, drop, getD}
+use Rattle.limits.specs.Limits.{maxPath, rowWidth, dirWidth, lastCounter}
 use Rattle.lists.specs.Runs.{allOf, anyOf}
 use Rattle.lists.specs.Same.{sameBytes}
 use Rattle.le.specs.Le.{le, field}
@@ -24,8 +25,8 @@ unfoldable pub sizesOk : Pool → ℕ → ℕ → ℕ → Bool
 sizesOk q l n d =
     leb (q .chosen .rows) 64 && (leb (q .chosen .«dir_rows») 256
     && (leb (q .held) (q .chosen .rows) && (leb (q .dirs) (q .chosen .«dir_rows») && (leb (q .free) 64
-    && (leb 1 (q .counter) && (leb (q .counter) (2 ^ 63)
-    && (eqb l (q .chosen .rows * 4) && (eqb n (q .chosen .rows * 480) && (eqb d (q .chosen .«dir_rows» * 482) && eqb (length (q .queue)) 64)))))))))
+    && (leb 1 (q .counter) && (leb (q .counter) lastCounter
+    && (eqb l (q .chosen .rows * rowWidth) && (eqb n (q .chosen .rows * maxPath) && (eqb d (q .chosen .«dir_rows» * dirWidth) && eqb (length (q .queue)) 64)))))))))
 
 -- ---- nothing but the view
 
@@ -40,9 +41,9 @@ part l a e = take (e - a) (drop a l)
 -- Rows past the counts are zero, and so are cells past the queue.
 unfoldable pub restOk : Bufs → Bool
 restOk b =
-    isZero (part (b .nums) (b .pool .held * 4) (length (b .nums)))
-    && (isZero (part (b .names) (b .pool .held * 480) (length (b .names)))
-    && (isZero (part (b .dirs) (b .pool .dirs * 482) (length (b .dirs)))
+    isZero (part (b .nums) (b .pool .held * rowWidth) (length (b .nums)))
+    && (isZero (part (b .names) (b .pool .held * maxPath) (length (b .names)))
+    && (isZero (part (b .dirs) (b .pool .dirs * dirWidth) (length (b .dirs)))
     && isZero (part (b .pool .queue) (b .pool .free) 64)))
 
 -- An unbound row has no path and no length.
@@ -52,16 +53,16 @@ bareOk m k n = cond (eqb m 0) (eqb k 0 && eqb n 0) true
 -- Slot row i, of mark m, path length k and file length n, is the row of some slot: the mark is 0, 1 or 2, and the name is zero behind the path.
 unfoldable pub rowFits : List ℕ → List ℕ → ℕ → Bool
 rowFits l s i =
-    leb (getD l (i * 4) 0) 2
-    && (leb (getD l (i * 4 + 1) 0) 480
-    && (bareOk (getD l (i * 4) 0) (getD l (i * 4 + 1) 0) (getD l (i * 4 + 2) 0)
-    && isZero (part s (i * 480 + getD l (i * 4 + 1) 0) (i * 480 + 480))))
+    leb (getD l (i * rowWidth) 0) 2
+    && (leb (getD l (i * rowWidth + 1) 0) maxPath
+    && (bareOk (getD l (i * rowWidth) 0) (getD l (i * rowWidth + 1) 0) (getD l (i * rowWidth + 2) 0)
+    && isZero (part s (i * maxPath + getD l (i * rowWidth + 1) 0) (i * maxPath + maxPath))))
 
 -- Directory row j is the row of some directory: a length in two bytes, and zeros behind the spelling.
 unfoldable pub dirFits : List ℕ → ℕ → Bool
 dirFits b j =
-    sameBytes (le 2 (field b (j * 482) 2)) (take 2 (drop (j * 482) b))
-    && (leb (field b (j * 482) 2) 480 && isZero (part b (j * 482 + 2 + field b (j * 482) 2) (j * 482 + 482)))
+    sameBytes (le 2 (field b (j * dirWidth) 2)) (take 2 (drop (j * dirWidth) b))
+    && (leb (field b (j * dirWidth) 2) maxPath && isZero (part b (j * dirWidth + 2 + field b (j * dirWidth) 2) (j * dirWidth + dirWidth)))
 
 -- ---- what the view says
 

@@ -6,6 +6,7 @@ ghost use mathlib.Core.Bool.{_&&_, _||_};
 ghost use Prim.Native.Nat.{_+_, _*_, _≤_, _<_, max};
 ghost use lib.Dec.{eqb};
 ghost use lib.ListN.{length, getD};
+ghost use Rattle.limits.specs.Limits.{maxPath, rowWidth, dirWidth};
 ghost use Rattle.lists.specs.Runs.{allOf};
 ghost use Rattle.lists.specs.Same.{sameBytes};
 ghost use Rattle.text.specs.Greatest.{greatest};
@@ -16,6 +17,10 @@ ghost use Rattle.table.specs.State.{bufs};
 ghost use Rattle.admit.specs.Test.{sizesOk, restOk, bareOk, rowFits, dirFits, firstOk, rowOk, hasNum, cellOk, dirOk};
 ghost use Rattle.admit.specs.Test.{fitsOk, viewOk, isPool};
 ghost use Rattle.admit.specs.Keys.{Sized, Keys, isDir, hasDir, Tail, Upright, Fine, Judged};
+use limits::DIR_WIDTH;
+use limits::LAST_COUNTER;
+use limits::MAX_PATH;
+use limits::ROW_WIDTH;
 use table::Pool;
 
 // ---- sizes and zeros
@@ -42,18 +47,18 @@ fn sizes_ok(pool: Pool, nums: usize, names: usize, dirs: usize) -> bool
     if pool.counter < 1 {
         return false;
     }
-    if 0x8000_0000_0000_0000 < pool.counter {
+    if LAST_COUNTER < pool.counter {
         return false;
     }
     let rows = pool.chosen.rows;
-    if nums != rows * 4 {
+    if nums != rows * ROW_WIDTH {
         return false;
     }
-    if names != rows * 480 {
+    if names != rows * MAX_PATH {
         return false;
     }
     let dir_rows = pool.chosen.dir_rows;
-    dirs == dir_rows * 482
+    dirs == dir_rows * DIR_WIDTH
 }
 
 // The greater of two numbers.
@@ -85,13 +90,13 @@ fn rest_ok(nums: &[u64], names: &[u8], dirs: &[u8], pool: Pool) -> bool
     let m = pool.dirs;
     let free = pool.free;
     let q = pool.queue;
-    if top(&nums[n * 4..nums.len()]) != 0 {
+    if top(&nums[n * ROW_WIDTH..nums.len()]) != 0 {
         return false;
     }
-    if text::greatest(&names[n * 480..names.len()]) != 0 {
+    if text::greatest(&names[n * MAX_PATH..names.len()]) != 0 {
         return false;
     }
-    if text::greatest(&dirs[m * 482..dirs.len()]) != 0 {
+    if text::greatest(&dirs[m * DIR_WIDTH..dirs.len()]) != 0 {
         return false;
     }
     text::greatest(&q[free..64]) == 0
@@ -101,23 +106,23 @@ fn rest_ok(nums: &[u64], names: &[u8], dirs: &[u8], pool: Pool) -> bool
 
 // Whether slot row i is the form of a slot.
 fn row_fits(nums: &[u64], names: &[u8], i: usize) -> bool
-    requires { ⌜ (i * 4 + 4 ≤ length (now nums)) × (i * 480 + 480 ≤ length (now names)) ⌝ }
+    requires { ⌜ (i * rowWidth + rowWidth ≤ length (now nums)) × (i * maxPath + maxPath ≤ length (now names)) ⌝ }
     ensures { λ r. ⌜ r ≡ rowFits (now (nums .entry)) (now (names .entry)) i ⌝ }
 {
-    let m = nums[i * 4];
-    let k = nums[i * 4 + 1];
-    let n = nums[i * 4 + 2];
+    let m = nums[i * ROW_WIDTH];
+    let k = nums[i * ROW_WIDTH + 1];
+    let n = nums[i * ROW_WIDTH + 2];
     if 2 < m {
         return false;
     }
-    if 480 < k {
+    if (MAX_PATH as u64) < k {
         return false;
     }
     if !bare_ok(m, k, n) {
         return false;
     }
-    let from = i * 480;
-    text::greatest(&names[from + k as usize..from + 480]) == 0
+    let from = i * MAX_PATH;
+    text::greatest(&names[from + k as usize..from + MAX_PATH]) == 0
 }
 
 // Whether a row of mark m has a path and a length only if it is bound.
@@ -135,7 +140,7 @@ fn bare_ok(m: u64, k: u64, n: u64) -> bool
 
 // Whether each of the first n slot rows is.
 fn rows_fit(nums: &[u64], names: &[u8], n: usize) -> bool
-    requires { ⌜ (n * 4 ≤ length (now nums)) × (n * 480 ≤ length (now names)) ⌝ }
+    requires { ⌜ (n * rowWidth ≤ length (now nums)) × (n * maxPath ≤ length (now names)) ⌝ }
     ensures { λ r. ⌜ r ≡ allOf (rowFits (now (nums .entry)) (now (names .entry))) 0 n ⌝ }
 {
     let mut i = 0;
@@ -150,20 +155,20 @@ fn rows_fit(nums: &[u64], names: &[u8], n: usize) -> bool
 
 // Whether directory row j is the form of a directory.
 fn dir_fits(dirs: &[u8], j: usize) -> bool
-    requires { ⌜ j * 482 + 482 ≤ length (now dirs) ⌝ }
+    requires { ⌜ j * dirWidth + dirWidth ≤ length (now dirs) ⌝ }
     ensures { λ r. ⌜ r ≡ dirFits (now (dirs .entry)) j ⌝ }
 {
-    let at = j * 482;
+    let at = j * DIR_WIDTH;
     let k = le::get_at(dirs, at, 2);
-    if 480 < k {
+    if (MAX_PATH as u64) < k {
         return false;
     }
-    text::greatest(&dirs[at + 2 + k as usize..at + 482]) == 0
+    text::greatest(&dirs[at + 2 + k as usize..at + DIR_WIDTH]) == 0
 }
 
 // Whether each of the first m directory rows is.
 fn dirs_fit(dirs: &[u8], m: usize) -> bool
-    requires { ⌜ m * 482 ≤ length (now dirs) ⌝ }
+    requires { ⌜ m * dirWidth ≤ length (now dirs) ⌝ }
     ensures { λ r. ⌜ r ≡ allOf (dirFits (now (dirs .entry))) 0 m ⌝ }
 {
     let mut j = 0;
@@ -218,7 +223,7 @@ fn row_key(nums: &[u64], names: &[u8], cap: usize, n: usize, i: usize) -> u32
     ensures { λ r. ⌜ r ≡ keyOf (pathOf (at (rowsOf (now (nums .entry)) (now (names .entry)) n) i)) ⌝ }
 {
     let k = rows::path_len(nums, names, cap, n, i);
-    let from = i * 480;
+    let from = i * MAX_PATH;
     path::key(&names[from..from + k])
 }
 
@@ -249,7 +254,7 @@ fn first_ok(nums: &[u64], names: &[u8], keys: &[u32], cap: usize, n: usize, i: u
         return true;
     }
     let k = rows::path_len(nums, names, cap, n, i);
-    let from = i * 480;
+    let from = i * MAX_PATH;
     rows::find_row(nums, names, cap, n, &names[from..from + k]) == i
 }
 
@@ -265,7 +270,7 @@ fn row_ok(nums: &[u64], names: &[u8], keys: &[u32], cap: usize, n: usize, c: u64
         return false;
     }
     let k = rows::path_len(nums, names, cap, n, i);
-    let from = i * 480;
+    let from = i * MAX_PATH;
     if !text::is_text(&names[from..from + k]) {
         return false;
     }
@@ -372,17 +377,17 @@ fn same_run(a: &[u8], b: &[u8]) -> bool
 
 // The key of directory j.
 fn dir_key(dirs: &[u8], j: usize) -> u32
-    requires { ⌜ j * 482 + 482 ≤ length (now dirs) ⌝ }
+    requires { ⌜ j * dirWidth + dirWidth ≤ length (now dirs) ⌝ }
     ensures { λ r. ⌜ r ≡ textKey (dirAt (now (dirs .entry)) j) ⌝ }
 {
     let k = dirs::dir_len(dirs, j);
-    let at = j * 482 + 2;
+    let at = j * DIR_WIDTH + 2;
     path::text_key(&dirs[at..at + k])
 }
 
 // The keys of the directories.
 fn dir_keys(dirs: &[u8], m: usize, keys: &mut [u32])
-    requires { ⌜ (m * 482 ≤ length (now dirs)) × (m ≤ length (now keys)) ⌝ }
+    requires { ⌜ (m * dirWidth ≤ length (now dirs)) × (m ≤ length (now keys)) ⌝ }
     ensures { λ _. ⌜ Keys textKey (dirAt (now (dirs .entry))) m (now (keys .exit)) ⌝ }
 {
     let mut j = 0;
@@ -395,7 +400,7 @@ fn dir_keys(dirs: &[u8], m: usize, keys: &mut [u32])
 // Whether directory j is p, whose key is f, byte for byte.
 fn dir_is(dirs: &[u8], keys: &[u32], j: usize, f: u32, p: &[u8]) -> bool
     requires { ⌜
-        (j * 482 + 482 ≤ length (now dirs))
+        (j * dirWidth + dirWidth ≤ length (now dirs))
         × (j < length (now keys))
         × (getD (now keys) j 0 ≡ textKey (dirAt (now dirs) j))
         × (f ≡ textKey (now p)) ⌝ }
@@ -408,13 +413,13 @@ fn dir_is(dirs: &[u8], keys: &[u32], j: usize, f: u32, p: &[u8]) -> bool
     if k != p.len() {
         return false;
     }
-    let at = j * 482 + 2;
+    let at = j * DIR_WIDTH + 2;
     same_run(&dirs[at..at + k], p)
 }
 
 // Whether p, whose key is f, is one of the first m directories, byte for byte.
 fn has_dir(dirs: &[u8], keys: &[u32], m: usize, f: u32, p: &[u8]) -> bool
-    requires { ⌜ (m * 482 ≤ length (now dirs)) × Keys textKey (dirAt (now dirs)) m (now keys) × (f ≡ textKey (now p)) ⌝ }
+    requires { ⌜ (m * dirWidth ≤ length (now dirs)) × Keys textKey (dirAt (now dirs)) m (now keys) × (f ≡ textKey (now p)) ⌝ }
     ensures { λ r. ⌜ r ≡ hasDir (now (dirs .entry)) m (now (p .entry)) ⌝ }
 {
     let mut j = 0;
@@ -429,7 +434,7 @@ fn has_dir(dirs: &[u8], keys: &[u32], m: usize, f: u32, p: &[u8]) -> bool
 
 // The same, with a look at the rows beside row j first: there a directory's parent stands most often.
 fn has_near(dirs: &[u8], keys: &[u32], m: usize, j: usize, p: &[u8]) -> bool
-    requires { ⌜ (m * 482 ≤ length (now dirs)) × Keys textKey (dirAt (now dirs)) m (now keys) × (j < m) ⌝ }
+    requires { ⌜ (m * dirWidth ≤ length (now dirs)) × Keys textKey (dirAt (now dirs)) m (now keys) × (j < m) ⌝ }
     ensures { λ r. ⌜ r ≡ hasDir (now (dirs .entry)) m (now (p .entry)) ⌝ }
 {
     let f = path::text_key(p);
@@ -448,7 +453,7 @@ fn has_near(dirs: &[u8], keys: &[u32], m: usize, j: usize, p: &[u8]) -> bool
 
 // Whether a directory before j, whose path is p, is the same bytes.
 fn seen_before(dirs: &[u8], keys: &[u32], m: usize, j: usize, p: &[u8]) -> bool
-    requires { ⌜ (m * 482 ≤ length (now dirs)) × Keys textKey (dirAt (now dirs)) m (now keys) × (j < m) × (now p ≡ dirAt (now dirs) j) ⌝ }
+    requires { ⌜ (m * dirWidth ≤ length (now dirs)) × Keys textKey (dirAt (now dirs)) m (now keys) × (j < m) × (now p ≡ dirAt (now dirs) j) ⌝ }
     ensures { λ r. ⌜ r ≡ hasDir (now (dirs .entry)) j (now (p .entry)) ⌝ }
 {
     if !has_key(keys, j, keys[j]) {
@@ -476,7 +481,7 @@ fn tail_at(x: &[u8], e: usize) -> usize
 
 // Whether x, which is directory j, is normal if the directories are, and its nearest ancestor, if it has one, is a directory.
 fn up_held(dirs: &[u8], keys: &[u32], m: usize, j: usize, x: &[u8]) -> bool
-    requires { ⌜ (m * 482 ≤ length (now dirs)) × Keys textKey (dirAt (now dirs)) m (now keys) × (j < m) × (now x ≡ dirAt (now dirs) j) ⌝ }
+    requires { ⌜ (m * dirWidth ≤ length (now dirs)) × Keys textKey (dirAt (now dirs)) m (now keys) × (j < m) × (now x ≡ dirAt (now dirs) j) ⌝ }
     ensures { λ r. ⌜ Judged (Upright (now (dirs .entry)) m j) (now (dirs .entry)) m r ⌝ }
 {
     let e = path::above(x);
@@ -498,11 +503,11 @@ fn up_held(dirs: &[u8], keys: &[u32], m: usize, j: usize, x: &[u8]) -> bool
 
 // Whether directory j is the first of its bytes, and as `up_held` says.
 fn dir_ok(dirs: &[u8], keys: &[u32], m: usize, j: usize) -> bool
-    requires { ⌜ (m * 482 ≤ length (now dirs)) × Keys textKey (dirAt (now dirs)) m (now keys) × (j < m) ⌝ }
+    requires { ⌜ (m * dirWidth ≤ length (now dirs)) × Keys textKey (dirAt (now dirs)) m (now keys) × (j < m) ⌝ }
     ensures { λ r. ⌜ Judged (Fine (now (dirs .entry)) m j) (now (dirs .entry)) m r ⌝ }
 {
     let k = dirs::dir_len(dirs, j);
-    let at = j * 482 + 2;
+    let at = j * DIR_WIDTH + 2;
     if seen_before(dirs, keys, m, j, &dirs[at..at + k]) {
         return false;
     }
@@ -511,7 +516,7 @@ fn dir_ok(dirs: &[u8], keys: &[u32], m: usize, j: usize) -> bool
 
 // Whether each directory is normal, the first of its path, and its nearest ancestor a directory.
 fn dirs_ok(dirs: &[u8], keys: &[u32], m: usize) -> bool
-    requires { ⌜ (m * 482 ≤ length (now dirs)) × Keys textKey (dirAt (now dirs)) m (now keys) ⌝ }
+    requires { ⌜ (m * dirWidth ≤ length (now dirs)) × Keys textKey (dirAt (now dirs)) m (now keys) ⌝ }
     ensures { λ r. ⌜ r ≡ allOf (dirOk (now (dirs .entry)) m) 0 m ⌝ }
 {
     let mut j = 0;
@@ -526,7 +531,7 @@ fn dirs_ok(dirs: &[u8], keys: &[u32], m: usize) -> bool
 
 // The same, with the keys worked out here.
 fn directories_ok(dirs: &[u8], m: usize) -> bool
-    requires { ⌜ (m * 482 ≤ length (now dirs)) × (m ≤ 256) ⌝ }
+    requires { ⌜ (m * dirWidth ≤ length (now dirs)) × (m ≤ 256) ⌝ }
     ensures { λ r. ⌜ r ≡ allOf (dirOk (now (dirs .entry)) m) 0 m ⌝ }
 {
     let mut keys = [0u32; 256];

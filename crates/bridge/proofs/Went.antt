@@ -5,6 +5,7 @@ use mathlib.Core.List.{List, _++_}
 use Prim.Native.Nat.{ℕ, _/_}
 use lib.ListN.{length, take, drop}
 use lib.Seq.{take-at}
+use Rattle.limits.specs.Limits.{rowWidth}
 use Rattle.device.specs.declared.Geometry.{Geometry}
 use Rattle.device.specs.Device.{Dev}
 use Rattle.table.specs.declared.Pool.{Pool}
@@ -21,9 +22,9 @@ use Rattle.calls_gate.specs.Calls.{callP}
 module _ (plan : List ℕ) (g : Geometry) (c : Call) (one two buf : List ℕ) (d : Dev) (q : Pool) (s names dirs : List ℕ) where
   -- rs are the records of the numbers s, ws those that the call left, and s′ the numbers that were put back
   pub went-through : (r : Reply) (b h m n f s′ : List ℕ) (rs ws : List Slot) → wholeRows s ≡ true → rs ≡ spreadOf s
-      → length ws ≡ length s / 4 → s′ ≡ numsOf (take (length s / 4) (ws ++ drop (length s / 4) rs))
-      → replied r b h (numsOf ws) m n f ≡ callP plan g c one two buf (lent d (bufs q (numsOf (take (length s / 4) rs)) names dirs))
+      → length ws ≡ length s / rowWidth → s′ ≡ numsOf (take (length s / rowWidth) (ws ++ drop (length s / rowWidth) rs))
+      → replied r b h (numsOf ws) m n f ≡ callP plan g c one two buf (lent d (bufs q (numsOf (take (length s / rowWidth) rs)) names dirs))
       → replied r b h s′ m n f ≡ callP plan g c one two buf (lent d (bufs q s names dirs))
   went-through r b h m n f s′ rs ws whole made long put e =
-      ap (λ (x : List ℕ). replied r b h x m n f) (put ∙ ap numsOf (take-at ws (drop (length s / 4) rs) (length s / 4) long))
+      ap (λ (x : List ℕ). replied r b h x m n f) (put ∙ ap numsOf (take-at ws (drop (length s / rowWidth) rs) (length s / rowWidth) long))
       ∙ e ∙ ap (λ (x : List ℕ). callP plan g c one two buf (lent d (bufs q x names dirs))) (nums-spread s rs whole made)

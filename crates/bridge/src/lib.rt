@@ -4,6 +4,7 @@ use calls_gate::Call;
 use calls_gate::Reply;
 use device::Geometry;
 use device::Place;
+use limits::ROW_WIDTH;
 use table::Pool;
 ghost use mathlib.Core.Path.{_≡_};
 ghost use mathlib.Core.Bool.{true};
@@ -35,7 +36,7 @@ fn through(
         ≡ callP (now (plan .entry)) geometry call (now (first .entry)) (now (second .entry)) (now (buf .entry))
         (before bytes phys place nums names dirs pool) ⌝ }
 {
-    let n = nums.len() / 4;
+    let n = nums.len() / ROW_WIDTH;
     let mut rows = records::rows_of(nums);
     let mut at = place;
     let reply = pool::call(

@@ -13,7 +13,7 @@ use Rattle.handles.proofs.Numbers.{file-len-number, read-at-number, set-len-num
 use Rattle.files.proofs.Numbers.{open-read-number, open-write-number, remove-number}
 use Rattle.renames.proofs.Numbers.{rename-number}
 use Rattle.folders.specs.Folders.{flatB}
-use Rattle.folders.specs.Laws.{create-dir-all-number, metadata-number, sync-dir-number}
+use Rattle.folders.proofs.Stays.{create-dir-all-number, metadata-number, sync-dir-number}
 use Rattle.listing.specs.Theorems.{read-dir-number}
 use Rattle.calls_gate.specs.declared.Call.{Call}
 use Rattle.calls_gate.specs.declared.Call.the-variants.{Adopt, CreateDirAll, Exists, FileLen, Metadata, Mount, OpenRead, OpenWrite}

@@ -7,28 +7,29 @@ use mathlib.Core.List.{List}
 use lib.Dec.{eqb, leb, ltb}
 use lib.ListN.{length}
 use borrow.Author.Tests.{leb-true, eq-eqb, eqb-true}
+use Rattle.limits.specs.Limits.{rowWidth}
 use Rattle.device.specs.declared.Geometry.{Geometry}
 use Rattle.device.specs.Device.{shapeB}
-use Rattle.device.specs.Shape.{both}
+use Rattle.device.proofs.Shapes.{both}
 use Rattle.rows.specs.Rows.{at, lenOf}
 use Rattle.dirs.specs.Dirs.{registeredWith}
 use Rattle.table.specs.State.{State, Bufs, view, flat}
 use Rattle.table.specs.Changes.{withDirs}
 use Rattle.table.specs.Reads.{pool-reads}
 use Rattle.admit.specs.Test.{isPool}
-use Rattle.admit.specs.Pools.{is-pool-of}
+use Rattle.admit.proofs.Exactly.{is-pool-of}
 use Rattle.steps.specs.World.{World, world, Lent, lent, viewW, flatW, Fit, Ready}
-use Rattle.steps.specs.Laws.{ready-fit, world-is}
-use Rattle.steps.specs.Numbers.{either}
+use Rattle.steps.proofs.Stays.{ready-fit, world-is}
+use Rattle.steps.proofs.Numbers.{either}
 use Rattle.mount.specs.Mount.{adoptM, mountM, mounted}
-use Rattle.mount.specs.Laws.{adopt-valid, mount-valid}
+use Rattle.mount.proofs.Stays.{adopt-valid, mount-valid}
 use Rattle.steps.specs.Outcome.{Outcome, outcome, None, flatO}
 use Rattle.handles.specs.Handles.{Filling, isLive, readPart, readAtM}
-use Rattle.handles.specs.Laws.{read-at-fit, write-at-fit, set-len-fit, sync-fit}
-use Rattle.files.specs.Laws.{open-write-fit, remove-fit}
-use Rattle.renames.specs.Keeps.{rename-fit}
+use Rattle.handles.proofs.Stays.{read-at-fit, write-at-fit, set-len-fit, sync-fit}
+use Rattle.files.proofs.Stays.{open-write-fit, remove-fit}
+use Rattle.renames.proofs.Stays.{rename-fit}
 use Rattle.folders.specs.Folders.{flatB, tooLong, createDirAllM}
-use Rattle.folders.specs.Laws.{create-dir-all-valid, sync-dir-fit}
+use Rattle.folders.proofs.Stays.{create-dir-all-valid, sync-dir-fit}
 use Rattle.calls_gate.specs.declared.Answer.{Answer}
 use Rattle.calls_gate.specs.declared.Call.{Call}
 use Rattle.calls_gate.specs.declared.Call.the-variants.{Mount, Adopt, OpenWrite, OpenRead, ReadAt, WriteAt, SetLen, FileLen}
@@ -206,8 +207,8 @@ crowd-no-rows true nums names dirs h = go (rowsB nums names dirs) refl
     go true e =
         let a = both (leb (slotRows nums) 64) _ e in
         let b = both (leb (dirRows dirs) 256) _ (a .1) in
-        let c = both (eqb (length nums) (slotRows nums * 4)) _ (b .1) in
-        absurd (omega (arith, leb-true (slotRows nums) 64 (a .0), eqb-true (length nums) (slotRows nums * 4) (c .0)))
+        let c = both (eqb (length nums) (slotRows nums * rowWidth)) _ (b .1) in
+        absurd (omega (arith, leb-true (slotRows nums) 64 (a .0), eqb-true (length nums) (slotRows nums * rowWidth) (c .0)))
 
 -- So every call refuses: 2 at a mount, else 1.
 pub many-rows : ManyRows

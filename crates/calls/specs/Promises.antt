@@ -4,6 +4,7 @@ use mathlib.Core.Path.{_≡_}
 use mathlib.Core.Bool.{true, false, cond}
 use mathlib.Core.List.{List}
 use lib.ListN.{length}
+use Rattle.limits.specs.Limits.{rowWidth}
 use Rattle.device.specs.declared.Geometry.{Geometry}
 use Rattle.steps.specs.World.{Lent, Ready}
 use Rattle.calls_gate.specs.declared.Answer.{Answer}
@@ -64,5 +65,5 @@ LooksLeave =
 -- Four numbers are a row. Every call refuses more than 64 rows: a mount with 2, and any other with 1.
 abbrev pub ManyRows : Type 0
 ManyRows =
-    (plan : List ℕ) (g : Geometry) (c : Call) (one two buf : List ℕ) (l : Lent) → 64 * 4 < length (l .bufs .nums)
+    (plan : List ℕ) (g : Geometry) (c : Call) (one two buf : List ℕ) (l : Lent) → 64 * rowWidth < length (l .bufs .nums)
     → callP plan g c one two buf l ≡ refusedM c (cond (takesOf c .mounts) 2 1) buf l

@@ -6,6 +6,8 @@ use calls_gate::Told;
 use calls_path::Went;
 use device::Geometry;
 use device::Place;
+use limits::DIR_WIDTH;
+use limits::ROW_WIDTH;
 use table::Chosen;
 use table::Pool;
 ghost use mathlib.Core.Path.{_≡_};
@@ -42,8 +44,8 @@ fn inner(
     match call {
         Call::Mount { slots } => {
             let chosen = Chosen {
-                rows: nums.len() / 4,
-                dir_rows: dirs.len() / 482,
+                rows: nums.len() / ROW_WIDTH,
+                dir_rows: dirs.len() / DIR_WIDTH,
             };
             let d = mount::mount_rows(
                 bytes,

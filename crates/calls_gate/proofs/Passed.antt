@@ -7,12 +7,13 @@ use mathlib.Core.List.{List}
 use lib.Dec.{leb}
 use lib.ListN.{length}
 use borrow.Author.Tests.{leb-true, eqb-true}
+use Rattle.limits.specs.Limits.{maxPath, rowWidth, dirWidth}
 use Rattle.text.specs.Text.{isText}
 use Rattle.device.specs.declared.Geometry.{Geometry}
 use Rattle.device.specs.Device.{Shape, shapeB}
-use Rattle.device.specs.Shape.{both, shape-means}
+use Rattle.device.proofs.Shapes.{both, shape-means}
 use Rattle.admit.specs.Test.{isPool}
-use Rattle.admit.specs.Pools.{pool-exactly}
+use Rattle.admit.proofs.Exactly.{pool-exactly}
 use Rattle.steps.specs.World.{Lent, Ready}
 use Rattle.calls_gate.specs.declared.Call.{Call}
 use Rattle.calls_gate.specs.Table.{takesOf, slotRows, dirRows, rowsB, holdsPool, mountable, textIf, refusalOf}
@@ -73,8 +74,8 @@ ready g c d one two l z e m = is-ready g c one two l z (ap (λ (x : Call). takes
 -- rows of the right shape, and a device
 pub mounts-on : (g : Geometry) (c d : Call) (one two : List ℕ) (l : Lent) → refusalOf g c one two l ≡ 0 → c ≡ d → takesOf d .mounts ≡ true
     → (Shape g (l .dev .bytes) (l .dev .phys) × (slotRows (l .bufs .nums) ≤ 64) × (dirRows (l .bufs .dirs) ≤ 256))
-    × ((length (l .bufs .nums) ≡ slotRows (l .bufs .nums) * 4) × (length (l .bufs .names) ≡ slotRows (l .bufs .nums) * 480)
-    × (length (l .bufs .dirs) ≡ dirRows (l .bufs .dirs) * 482))
+    × ((length (l .bufs .nums) ≡ slotRows (l .bufs .nums) * rowWidth) × (length (l .bufs .names) ≡ slotRows (l .bufs .nums) * maxPath)
+    × (length (l .bufs .dirs) ≡ dirRows (l .bufs .dirs) * dirWidth))
 unfolding mountable rowsB
 mounts-on g c d one two l z e m =
     let is = is-mountable g c one two l z (ap (λ (x : Call). takesOf x .mounts) e ∙ m) in

@@ -7,6 +7,7 @@ use mathlib.Core.List.{List}
 use lib.Dec.{eqb, leb}
 use lib.ListN.{length}
 use borrow.Author.Tests.{le-leb, lt-leb, eq-eqb, ne-eqb, not-true, not-false}
+use Rattle.limits.specs.Limits.{maxPath, rowWidth, dirWidth}
 use Rattle.text.specs.Text.{isText}
 use Rattle.device.specs.declared.Geometry.{Geometry}
 use Rattle.device.specs.declared.Place.{Place}
@@ -16,7 +17,7 @@ use Rattle.table.specs.Numbers.{isNumber}
 use Rattle.table.specs.State.{Bufs, bufs}
 use Rattle.admit.specs.Test.{isPool}
 use Rattle.steps.specs.World.{Lent}
-use Rattle.steps.specs.Numbers.{either}
+use Rattle.steps.proofs.Numbers.{either}
 use Rattle.mount.specs.Mount.{zeroPool}
 use Rattle.calls_gate.specs.declared.Answer.{Answer}
 use Rattle.calls_gate.specs.declared.Answer.the-variants.{TooSmall}
@@ -52,37 +53,37 @@ none-before n a b c d e f g h i j k l m =
 
 -- how the test of the rows goes
 module _ (l n s : List ℕ) where
-  pub rows-many : 64 < length l / 4 → false ≡ rowsB l n s
+  pub rows-many : 64 < length l / rowWidth → false ≡ rowsB l n s
   unfolding rowsB
-  rows-many h = let z = lt-leb (length l / 4) 64 h in rw z
+  rows-many h = let z = lt-leb (length l / rowWidth) 64 h in rw z
 
-  module _ (h : length l / 4 ≤ 64) where
-    small : leb (length l / 4) 64 ≡ true
-    small = le-leb (length l / 4) 64 h
+  module _ (h : length l / rowWidth ≤ 64) where
+    small : leb (length l / rowWidth) 64 ≡ true
+    small = le-leb (length l / rowWidth) 64 h
 
-    pub dirs-many : 256 < length s / 482 → false ≡ rowsB l n s
+    pub dirs-many : 256 < length s / dirWidth → false ≡ rowsB l n s
     unfolding rowsB
-    dirs-many k = let z = lt-leb (length s / 482) 256 k in rw (small, z)
+    dirs-many k = let z = lt-leb (length s / dirWidth) 256 k in rw (small, z)
 
-    module _ (k : length s / 482 ≤ 256) where
-      dirs-small : leb (length s / 482) 256 ≡ true
-      dirs-small = le-leb (length s / 482) 256 k
+    module _ (k : length s / dirWidth ≤ 256) where
+      dirs-small : leb (length s / dirWidth) 256 ≡ true
+      dirs-small = le-leb (length s / dirWidth) 256 k
 
-      pub nums-cut : (length l ≡ length l / 4 * 4 → ⊥) → false ≡ rowsB l n s
+      pub nums-cut : (length l ≡ length l / rowWidth * rowWidth → ⊥) → false ≡ rowsB l n s
       unfolding rowsB
-      nums-cut ne = let z = ne-eqb (length l) (length l / 4 * 4) ne in rw (small, dirs-small, z)
+      nums-cut ne = let z = ne-eqb (length l) (length l / rowWidth * rowWidth) ne in rw (small, dirs-small, z)
 
-      module _ (e : length l ≡ length l / 4 * 4) where
-        nums-whole : eqb (length l) (length l / 4 * 4) ≡ true
-        nums-whole = eq-eqb (length l) (length l / 4 * 4) e
+      module _ (e : length l ≡ length l / rowWidth * rowWidth) where
+        nums-whole : eqb (length l) (length l / rowWidth * rowWidth) ≡ true
+        nums-whole = eq-eqb (length l) (length l / rowWidth * rowWidth) e
 
-        pub names-differ : (length n ≡ length l / 4 * 480 → ⊥) → false ≡ rowsB l n s
+        pub names-differ : (length n ≡ length l / rowWidth * maxPath → ⊥) → false ≡ rowsB l n s
         unfolding rowsB
-        names-differ ne = let z = ne-eqb (length n) (length l / 4 * 480) ne in rw (small, dirs-small, nums-whole, z)
+        names-differ ne = let z = ne-eqb (length n) (length l / rowWidth * maxPath) ne in rw (small, dirs-small, nums-whole, z)
 
-        pub names-agree : length n ≡ length l / 4 * 480 → eqb (length s) (length s / 482 * 482) ≡ rowsB l n s
+        pub names-agree : length n ≡ length l / rowWidth * maxPath → eqb (length s) (length s / dirWidth * dirWidth) ≡ rowsB l n s
         unfolding rowsB
-        names-agree q = let z = eq-eqb (length n) (length l / 4 * 480) q in rw (small, dirs-small, nums-whole, z)
+        names-agree q = let z = eq-eqb (length n) (length l / rowWidth * maxPath) q in rw (small, dirs-small, nums-whole, z)
 
 -- ---- the tests
 

@@ -4,6 +4,7 @@ use mathlib.Core.Bool.{Bool, true, false, cond, _&&_}
 use mathlib.Core.List.{List}
 use lib.Dec.{eqb, leb}
 use lib.ListN.{length, replicate}
+use Rattle.limits.specs.Limits.{maxPath, rowWidth, dirWidth}
 use Rattle.text.specs.Text.{isText}
 use Rattle.device.specs.declared.Geometry.{Geometry}
 use Rattle.device.specs.Device.{shapeB}
@@ -45,10 +46,10 @@ takesOf Metadata = takes false true false false
 
 -- How many slot rows and directory rows the buffers are.
 abbrev pub slotRows : List ℕ → ℕ
-slotRows nums = length nums / 4
+slotRows nums = length nums / rowWidth
 
 abbrev pub dirRows : List ℕ → ℕ
-dirRows dirs = length dirs / 482
+dirRows dirs = length dirs / dirWidth
 
 -- What a mount chooses: as many rows as it is lent.
 abbrev pub chosenOf : Bufs → Chosen
@@ -58,7 +59,7 @@ chosenOf b = record { rows = slotRows (b .nums); «dir_rows» = dirRows (b .dirs
 unfoldable pub rowsB : List ℕ → List ℕ → List ℕ → Bool
 rowsB nums names dirs =
     leb (slotRows nums) 64 && (leb (dirRows dirs) 256
-    && (eqb (length nums) (slotRows nums * 4) && (eqb (length names) (slotRows nums * 480) && eqb (length dirs) (dirRows dirs * 482))))
+    && (eqb (length nums) (slotRows nums * rowWidth) && (eqb (length names) (slotRows nums * maxPath) && eqb (length dirs) (dirRows dirs * dirWidth))))
 
 -- "A shape is wrong if it breaks the device's first sentence above, the device has fewer slots than the pool holds"
 unfoldable pub holdsPool : Geometry → Lent → Bool

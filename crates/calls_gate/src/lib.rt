@@ -3,6 +3,9 @@
 // was, but that a refused mount leaves the record and the rows zero. Crate calls makes the call that is not refused.
 use device::Geometry;
 use device::Place;
+use limits::DIR_WIDTH;
+use limits::MAX_PATH;
+use limits::ROW_WIDTH;
 use table::Pool;
 ghost use mathlib.Core.Path.{_≡_};
 ghost use Rattle.table.specs.State.{bufs};
@@ -202,21 +205,21 @@ pub fn takes_of(call: Call) -> Takes
 fn rows_ok(nums: &[u64], names: &[u8], dirs: &[u8]) -> bool
     ensures { λ r. ⌜ r ≡ rowsB (now (nums .entry)) (now (names .entry)) (now (dirs .entry)) ⌝ }
 {
-    let cap = nums.len() / 4;
-    let dir_cap = dirs.len() / 482;
+    let cap = nums.len() / ROW_WIDTH;
+    let dir_cap = dirs.len() / DIR_WIDTH;
     if 64 < cap {
         return false;
     }
     if 256 < dir_cap {
         return false;
     }
-    if nums.len() != cap * 4 {
+    if nums.len() != cap * ROW_WIDTH {
         return false;
     }
-    if names.len() != cap * 480 {
+    if names.len() != cap * MAX_PATH {
         return false;
     }
-    dirs.len() == dir_cap * 482
+    dirs.len() == dir_cap * DIR_WIDTH
 }
 
 // Whether a run is text, where it is a path.

@@ -6,7 +6,7 @@ use mathlib.Core.List.{List}
 use native.Mathlib.Omega.{arith}
 use lib.Dec.{eqb}
 use Rattle.header.specs.Block.{blockLen, maxPath, decoded}
-use Rattle.header.specs.Laws.{found}
+use Rattle.header.proofs.BlockLaws.{found}
 use Rattle.header.specs.declared.Header.{Header}
 use Rattle.header.specs.declared.Decoded.{Decoded}
 use Rattle.header.specs.declared.Decoded.the-variants.{Absent, Found}

@@ -1,4 +1,4 @@
--- The calls of Laws on the device of document 01: the model's, but for one that the shape, the slot's number or a header's length rules out, which changes nothing and has failed.
+-- The calls of AnyDevice on the device of document 01: the model's, but for one that the shape, the slot's number or a header's length rules out, which changes nothing and has failed.
 use Prim.Native.Nat.{ℕ, _+_, _-_, min}
 use mathlib.Core.Bool.{Bool, true, false, cond, not, _&&_}
 use mathlib.Core.List.{List, []}
@@ -7,7 +7,7 @@ use lib.Dec.{ltb, eqb}
 use Rattle.device.specs.declared.Geometry.{Geometry}
 use Rattle.device.specs.Device.{Dev, dev, shapeB, turn, share, physOf, given, seen, flushM, headerWriteM, dataWriteM, dataTruncateM}
 use Rattle.device.specs.Slots.{partOf}
-use Rattle.device.specs.Laws.{Call, look, header, flush, truncate, store, load, slotOf, sound}
+use Rattle.device.specs.AnyDevice.{Call, look, header, flush, truncate, store, load, slotOf, sound}
 
 -- The device is of the right shape, and the call of one of its slots.
 unfoldable pub may : Geometry → Dev → Call → Bool

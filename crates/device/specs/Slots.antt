@@ -14,7 +14,7 @@ use Rattle.device.specs.Device.{share}
 use Rattle.lists.specs.Fronts.{drop-take, zeros-take}
 use Rattle.lists.specs.Blocks.{pad, pad-fits}
 use Rattle.le.specs.Le.{laid}
-use Rattle.le.specs.Parts.{take-laid, drop-laid, laid-read-before, laid-front, drop-laid-in, take-laid-in}
+use Rattle.le.proofs.Parts.{take-laid, drop-laid, laid-read-before, laid-front, drop-laid-in, take-laid-in}
 
 -- ---- a slot's part
 

@@ -8,8 +8,8 @@ use native.Mathlib.Omega.{arith}
 use Rattle.path.specs.Path.{normal, ancestors}
 use Rattle.dirs.specs.Dirs.{hasPath, registered, registeredWith}
 use Rattle.dirs.specs.Rows.{dirsOf, FlatDirs}
-use Rattle.dirs.specs.RowLaws.{length-dirs}
-use Rattle.dirs.specs.Laws.{with-held, with-new, length-registered}
+use Rattle.dirs.proofs.InBuffer.{length-dirs}
+use Rattle.dirs.proofs.Registering.{with-held, with-new, length-registered}
 
 module _ (cap m : ℕ) (b p : List ℕ) (l : length (registeredWith (dirsOf b m) p) ≤ cap) where
   module _ (h : hasPath (dirsOf b m) p ≡ true) where

@@ -7,15 +7,16 @@ use lib.ListN.{length, take, length-append}
 use lib.Seq.{take-append-le}
 use native.Mathlib.Omega.{arith}
 use borrow.Author.Tests.{eq-eqb}
+use Rattle.limits.specs.Limits.{maxPath}
 use Rattle.lists.specs.Distinct.{In}
 use Rattle.lists.specs.Runs.{tab, take-tab, tab-more, tab-end}
 use Rattle.path.specs.Path.{samePath, normal, ancestors}
 use Rattle.path.specs.Walk.{upFrom, Above}
-use Rattle.path.specs.Ancestors.{ancestor-short, up-falls, up-step}
+use Rattle.path.proofs.Ancestors.{ancestor-short, up-falls, up-step}
 use Rattle.dirs.specs.Dirs.{hasPath, absent, joined, registered}
 use Rattle.dirs.specs.Rows.{dirAt, dirsOf, FlatDirs}
-use Rattle.dirs.specs.RowLaws.{length-dirs}
-use Rattle.dirs.specs.Joined.{has-normal}
+use Rattle.dirs.proofs.InBuffer.{length-dirs}
+use Rattle.dirs.proofs.Joined.{has-normal}
 
 -- ---- along the rows
 
@@ -97,7 +98,7 @@ module _ (cap m : ℕ) (b₀ p b : List ℕ) (n e r : ℕ) (g : Going cap m b₀
       }
 
   -- each ancestor fits a row
-  pub going-short : length (normal p) ≤ 480 → length (normal (take e p)) ≤ 480
+  pub going-short : length (normal p) ≤ maxPath → length (normal (take e p)) ≤ maxPath
   going-short h = omega (arith, ancestor-short p (normal (take e p)) (g .ahead (normal (take e p)) (next-in (List·Memᴰ·head refl))))
 
   module _ (h : hasPath (dirsOf b m) (take e p) ≡ false) where

@@ -4,6 +4,7 @@ use Prim.Native.Nat.{ℕ, _*_, _≤_}
 use mathlib.Core.Path.{_≡_}
 use mathlib.Core.List.{List, _++_}
 use lib.ListN.{length, take, drop}
+use Rattle.limits.specs.Limits.{maxPath, dirWidth}
 use Rattle.le.specs.Le.{le, field}
 use Rattle.lists.specs.Blocks.{pad, cat}
 use Rattle.lists.specs.Distinct.{In}
@@ -11,11 +12,11 @@ use Rattle.lists.specs.Runs.{tab}
 
 -- The row of a directory.
 unfoldable pub dirRow : List ℕ → List ℕ
-dirRow d = le 2 (length d) ++ pad 480 d
+dirRow d = le 2 (length d) ++ pad maxPath d
 
 -- The buffer of cap rows that holds ds.
 unfoldable pub flatDirs : ℕ → List (List ℕ) → List ℕ
-flatDirs cap ds = pad (cap * 482) (cat dirRow ds)
+flatDirs cap ds = pad (cap * dirWidth) (cat dirRow ds)
 
 -- What a row spells: as many of the bytes behind the first two as these say, and no more than there are.
 unfoldable pub spelt : List ℕ → List ℕ
@@ -23,7 +24,7 @@ spelt r = take (field r 0 2) (drop 2 r)
 
 -- What row j of a buffer spells.
 unfoldable pub dirAt : List ℕ → ℕ → List ℕ
-dirAt b j = spelt (take 482 (drop (j * 482) b))
+dirAt b j = spelt (take dirWidth (drop (j * dirWidth) b))
 
 -- The directories in the first m rows of a buffer.
 unfoldable pub dirsOf : List ℕ → ℕ → List (List ℕ)
@@ -31,7 +32,7 @@ dirsOf b m = tab (dirAt b) 0 m
 
 -- Each fits its row.
 abbrev pub Short : List (List ℕ) → Type 0
-Short ds = (d : List ℕ) → In d ds → length d ≤ 480
+Short ds = (d : List ℕ) → In d ds → length d ≤ maxPath
 
 -- A buffer of cap rows whose first m hold directories, and in which no other byte has a meaning: it is the flat form of what it holds.
 pub record FlatDirs (cap m : ℕ) (b : List ℕ) : Type 0 where

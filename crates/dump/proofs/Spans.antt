@@ -6,13 +6,14 @@ use mathlib.Core.Bool.{Bool}
 use mathlib.Core.List.{List, [], _∷_, map}
 use lib.ListN.{length, take}
 use lib.Seq.{sets, sets-eq, length-sets, take-at}
+use Rattle.limits.specs.Limits.{dirWidth}
 use Rattle.lists.specs.Runs.{range}
 use Rattle.lists.specs.Blocks.{cat}
 use Rattle.lists.specs.Sort.{All, all-keep, all-range, all-sort, keep, sort}
 use Rattle.rows.specs.Rows.{Row, at, isBound, rowsOf, Flat}
 use Rattle.dirs.specs.Rows.{dirsOf}
 use Rattle.order.specs.Spans.{spelled, AllInside, before, fileSpan, slotOf, fileSpans, dirSpans, fileBefore}
-use Rattle.order.specs.Laws.{length-sorted}
+use Rattle.order.specs.InOrder.{length-sorted}
 use Rattle.order.specs.Picks.{picks-few, picks-inside, file-spans, file-inside, file-slot}
 use Rattle.order.specs.AllDirs.{cat-map, dirs-many, sorted-cat}
 use Rattle.order.specs.Theorems.{files-sorted}
@@ -67,7 +68,7 @@ module _ (cap n : ℕ) (l s : List ℕ) (F : Flat cap n l s) where
 
 -- ---- directories
 
-module _ (m : ℕ) (b : List ℕ) (h : m * 482 ≤ length b) where
+module _ (m : ℕ) (b : List ℕ) (h : m * dirWidth ≤ length b) where
   abbrev ds : List (List ℕ)
   ds = dirsOf b m
 

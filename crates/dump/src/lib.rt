@@ -1,10 +1,12 @@
 // A pool as text in a lent buffer: what the command program prints for `dump` (01, "The command program"). The buffer may be too short; the
 // whole length is given back, and what falls past the buffer's end goes nowhere. A record that is no pool gets `no 1`. The Rust has no such
 // program.
+use limits::MAX_PATH;
 use table::Pool;
 ghost use mathlib.Core.Path.{_≡_};
 ghost use Prim.Native.Nat.{_+_, _*_, _^_, _≤_, _<_};
 ghost use lib.ListN.{length};
+ghost use Rattle.limits.specs.Limits.{dirWidth};
 ghost use Rattle.lists.specs.Blocks.{cat};
 ghost use Rattle.lists.specs.Sort.{sort};
 ghost use Rattle.rows.specs.Rows.{rowsOf, Flat};
@@ -67,7 +69,7 @@ fn put_file(
     requires { ⌜ Flat cap n (now nums) (now names) × (i < n) × (at + 600 < 2 ^ 64) ⌝ }
     ensures { λ r. ⌜ Puts (fileLine (rowsOf (now (nums .entry)) (now (names .entry)) n) i) out at r ⌝ }
 {
-    let start = i * 480;
+    let start = i * MAX_PATH;
     let end = start + rows::path_len(nums, names, cap, n, i);
     let generation = rows::row_generation(nums, names, cap, n, i);
     let len = rows::row_len(nums, names, cap, n, i);
@@ -165,7 +167,7 @@ fn put_dirs(dirs: &[u8], spans: &[u32], out: &mut [u8], at: usize) -> usize
 
 // The lines of all directories, whose spans are lent by row.
 fn put_sorted_dirs(dirs: &[u8], m: usize, spans: &mut [u32], out: &mut [u8], at: usize) -> usize
-    requires { ⌜ (m * 482 ≤ length (now dirs)) × (now spans ≡ dirSpans (dirsOf (now dirs) m)) × (m ≤ 256) × (at + 153600 < 2 ^ 64) ⌝ }
+    requires { ⌜ (m * dirWidth ≤ length (now dirs)) × (now spans ≡ dirSpans (dirsOf (now dirs) m)) × (m ≤ 256) × (at + 153600 < 2 ^ 64) ⌝ }
     ensures { λ r. ⌜ Puts (dirsText (dirsOf (now (dirs .entry)) m)) out at r ⌝ }
 {
     order::sort(dirs, spans);
@@ -174,7 +176,7 @@ fn put_sorted_dirs(dirs: &[u8], m: usize, spans: &mut [u32], out: &mut [u8], at:
 
 // The lines of all directories.
 fn put_all_dirs(dirs: &[u8], m: usize, out: &mut [u8], at: usize) -> usize
-    requires { ⌜ (m * 482 ≤ length (now dirs)) × (m ≤ 256) × (at + 153600 < 2 ^ 64) ⌝ }
+    requires { ⌜ (m * dirWidth ≤ length (now dirs)) × (m ≤ 256) × (at + 153600 < 2 ^ 64) ⌝ }
     ensures { λ r. ⌜ Puts (dirsText (dirsOf (now (dirs .entry)) m)) out at r ⌝ }
 {
     let mut spans = [0u32; 256];

@@ -5,6 +5,7 @@ use mathlib.Core.Bool.{Bool}
 use mathlib.Core.List.{List}
 use lib.Dec.{eqb, ltb}
 use lib.ListN.{getD, length}
+use Rattle.limits.specs.Limits.{maxPath, lastCounter}
 use Rattle.device.specs.declared.Geometry.{Geometry}
 use Rattle.rows.specs.Rows.{find}
 use Rattle.dirs.specs.Dirs.{registered}
@@ -12,7 +13,7 @@ use Rattle.table.specs.Numbers.{isNumber}
 use Rattle.table.specs.State.{State}
 use Rattle.steps.specs.World.{World}
 use Rattle.steps.specs.Steps.{releaseM}
-use Rattle.steps.specs.Numbers.{cut-last, either, release-last}
+use Rattle.steps.proofs.Numbers.{cut-last, either, release-last}
 use Rattle.steps.specs.Outcome.{None, Out, came, outcome}
 use Rattle.files.specs.Files.{admitsNew, createM, isFile, noHandle, openNewM, openReadM, openWriteM, removeM, reopenM, roomFor}
 
@@ -20,7 +21,7 @@ use Rattle.files.specs.Files.{admitsNew, createM, isFile, noHandle, open
 pub room-number : (need : ℕ) (path : List ℕ) (cap : ℕ) (ds : List (List ℕ)) (counter : ℕ) → isNumber (roomFor need path cap ds counter)
 unfolding roomFor
 room-number need path cap ds counter =
-    either isNumber (ltb cap (length (registered ds path))) (omega arith) (either isNumber (ltb (2 ^ 63) (counter + need)) (omega arith) (omega arith))
+    either isNumber (ltb cap (length (registered ds path))) (omega arith) (either isNumber (ltb lastCounter (counter + need)) (omega arith) (omega arith))
 
 module _ (plan : List ℕ) (g : Geometry) where
   pub open-write-number : (path : List ℕ) (keep : Bool) (w : World) → Out (openWriteM plan g path keep w)
@@ -28,7 +29,7 @@ module _ (plan : List ℕ) (g : Geometry) where
   open-write-number path keep w =
       let new = admitsNew path (w .state) in
       let i = find path (w .state .rows) in
-      either Out (ltb 480 (length path)) {x = outcome 4 noHandle w} (omega arith)
+      either Out (ltb maxPath (length path)) {x = outcome 4 noHandle w} (omega arith)
       (either Out (isFile path (w .state)) {x = reopenM plan g i keep w} {y = openNewM plan g path w}
       (either Out keep (omega arith) (cut-last plan g i 0 (w .dev)))
       (either Out (eqb new 0) {x = createM plan g path w} {y = outcome new noHandle w}
@@ -39,7 +40,7 @@ module _ (plan : List ℕ) (g : Geometry) where
   unfolding removeM
   remove-number path w =
       either Out (isFile path (w .state)) {y = outcome {R = None} 5 tt w}
-      (either Out (ltb (2 ^ 63) (w .state .counter + 1)) {x = outcome {R = None} 9 tt w} {y = came (releaseM plan g i w)} (omega arith) (release-last plan g i w)) (omega arith)
+      (either Out (ltb lastCounter (w .state .counter + 1)) {x = outcome {R = None} 9 tt w} {y = came (releaseM plan g i w)} (omega arith) (release-last plan g i w)) (omega arith)
     where
       i : ℕ
       i = find path (w .state .rows)

@@ -4,6 +4,7 @@ use mathlib.Core.Bool.{Bool, true, cond}
 use mathlib.Core.List.{List}
 use lib.Dec.{eqb, ltb}
 use lib.ListN.{length, getD}
+use Rattle.limits.specs.Limits.{maxPath, lastCounter}
 use Rattle.device.specs.declared.Geometry.{Geometry}
 use Rattle.device.specs.Device.{Dev, dataTruncateM}
 use Rattle.rows.specs.Rows.{File, file, bound, at, genOf, lenOf, find}
@@ -25,7 +26,7 @@ isFile path s = ltb (find path (s .rows)) (length (s .rows))
 
 -- "more directories to hold than directory rows" is 8, "counter + generations needed above 2^63" is 9.
 unfoldable pub roomFor : ℕ → List ℕ → ℕ → List (List ℕ) → ℕ → ℕ
-roomFor need path cap dirs counter = cond (ltb cap (length (registered dirs path))) 8 (cond (ltb (2 ^ 63) (counter + need)) 9 0)
+roomFor need path cap dirs counter = cond (ltb cap (length (registered dirs path))) 8 (cond (ltb lastCounter (counter + need)) 9 0)
 
 abbrev pub room : ℕ → List ℕ → State → ℕ
 room need path s = roomFor need path (s .chosen .«dir_rows») (s .dirs) (s .counter)
@@ -96,7 +97,7 @@ openNewM plan g path w = cond (eqb (admitsNew path (w .state)) 0) (createM plan 
 -- "Open: 4, existing file, 7, 8, 9, device."
 unfoldable pub openWriteM : List ℕ → Geometry → List ℕ → Bool → World → Outcome Handle World
 openWriteM plan g path keep w =
-    cond (ltb 480 (length path)) (outcome 4 noHandle w)
+    cond (ltb maxPath (length path)) (outcome 4 noHandle w)
     (cond (isFile path (w .state)) (reopenM plan g (find path (w .state .rows)) keep w) (openNewM plan g path w))
 
 -- ---- "Remove"
@@ -105,5 +106,5 @@ openWriteM plan g path keep w =
 unfoldable pub removeM : List ℕ → Geometry → List ℕ → World → Outcome None World
 removeM plan g path w =
     cond (isFile path (w .state))
-    (cond (ltb (2 ^ 63) (w .state .counter + 1)) (outcome 9 tt w) (came (releaseM plan g (find path (w .state .rows)) w)))
+    (cond (ltb lastCounter (w .state .counter + 1)) (outcome 9 tt w) (came (releaseM plan g (find path (w .state .rows)) w)))
     (outcome 5 tt w)

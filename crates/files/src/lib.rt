@@ -3,11 +3,14 @@
 // that the buffers are a pool on its device, and that the path is text.
 use device::Geometry;
 use device::Place;
+use limits::LAST_COUNTER;
+use limits::MAX_PATH;
 use table::Pool;
 ghost use mathlib.Core.Path.{_≡_};
 ghost use mathlib.Core.Bool.{true};
 ghost use Prim.Native.Nat.{_^_, _≤_, _<_};
 ghost use lib.ListN.{length};
+ghost use Rattle.limits.specs.Limits.{maxPath, lastCounter};
 ghost use Rattle.device.specs.Device.{dev};
 ghost use Rattle.rows.specs.Rows.{file, at, isBound, rowsOf};
 ghost use Rattle.dirs.specs.Dirs.{registered};
@@ -16,11 +19,6 @@ ghost use Rattle.table.specs.State.{bufs, bufsBefore, bufsAfter, view, flat, Is
 ghost use Rattle.steps.specs.World.{lent, viewW, Ready, before, after};
 ghost use Rattle.steps.specs.Outcome.{outcome, flatO};
 ghost use Rattle.files.specs.Files.{roomFor, binds, handle, openReadM, reopenM, createM, openWriteM, removeM};
-
-// The longest path of a file.
-const MAX_PATH: usize = 480;
-// No generation is as high.
-const LAST: u64 = 9223372036854775808;
 
 // The number of open_read, and the handle.
 pub struct Reader {
@@ -75,7 +73,7 @@ pub fn room(dirs: &[u8], pool: Pool, path: &[u8], need: u64) -> u8
     if cap - m < missing {
         return 8;
     }
-    if LAST - need < counter {
+    if LAST_COUNTER - need < counter {
         return 9;
     }
     0
@@ -93,7 +91,7 @@ pub fn bind(
     len: u64,
     dirty: bool,
 ) -> Pool
-    requires { ⌜ IsPool (bufs pool (now nums) (now names) (now dirs)) × (i < pool .held) × (length (now path) ≤ 480) ⌝ }
+    requires { ⌜ IsPool (bufs pool (now nums) (now names) (now dirs)) × (i < pool .held) × (length (now path) ≤ maxPath) ⌝ }
     requires { ⌜ length (registered (dirsOf (now dirs) (pool .dirs)) (now path)) ≤ pool .chosen .«dir_rows» ⌝ }
     ensures { λ r. ⌜
         bufsAfter nums names dirs r
@@ -195,7 +193,7 @@ fn create(
     path: &[u8],
 ) -> Writer
     requires { ⌜ Ready geometry (lent (dev (now bytes) (now phys) place) (bufs pool (now nums) (now names) (now dirs))) ⌝ }
-    requires { ⌜ (0 < pool .free) × (pool .counter < 2 ^ 63) × (length (now path) ≤ 480) ⌝ }
+    requires { ⌜ (0 < pool .free) × (pool .counter < lastCounter) × (length (now path) ≤ maxPath) ⌝ }
     requires { ⌜ length (registered (dirsOf (now dirs) (pool .dirs)) (now path)) ≤ pool .chosen .«dir_rows» ⌝ }
     ensures { λ r. ⌜
         outcome (r .out) (handle (r .slot) (r .generation) (r .len)) (after bytes phys (r .place) nums names dirs (r .pool))
@@ -313,7 +311,7 @@ pub fn remove_file(
         };
     }
     let counter = pool.counter;
-    if LAST <= counter {
+    if LAST_COUNTER <= counter {
         return Done {
             out: 9,
             place: place,

@@ -10,14 +10,14 @@ use lib.Dec.{eqb}
 use borrow.Author.Tests.{eq-eqb, ne-eqb}
 use Rattle.lists.specs.Runs.{range, range-more, range-end, from-start}
 use Rattle.device.specs.declared.Geometry.{Geometry}
-use Rattle.rows.specs.Laws.{length-rows}
+use Rattle.rows.proofs.InBuffers.{length-rows}
 use Rattle.table.specs.State.{view}
 use Rattle.steps.specs.World.{World, Lent, viewW, flatW, Ready}
-use Rattle.steps.specs.Laws.{world-is, ready-fit}
+use Rattle.steps.proofs.Stays.{world-is, ready-fit}
 use Rattle.steps.specs.Outcome.{Outcome, outcome, flatO, None}
-use Rattle.handles.specs.Laws.{stays}
+use Rattle.handles.proofs.Stays.{stays}
 use Rattle.folders.specs.Folders.{syncOneM, syncEachM, syncDirM}
-use Rattle.folders.specs.Laws.{sync-one-fit}
+use Rattle.folders.proofs.Stays.{sync-one-fit}
 
 pub record Syncing (plan : List ℕ) (g : Geometry) (path : List ℕ) (n : ℕ) (w : World) (l : Lent) (i : ℕ) : Type 0 where
   pub ready : Ready g l

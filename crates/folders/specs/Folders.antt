@@ -4,6 +4,7 @@ use mathlib.Core.Bool.{Bool, false, cond, _||_}
 use mathlib.Core.List.{List, [], _∷_}
 use lib.Dec.{eqb, ltb}
 use lib.ListN.{length}
+use Rattle.limits.specs.Limits.{maxPath}
 use Rattle.lists.specs.Runs.{range}
 use Rattle.path.specs.Path.{isParent, normal}
 use Rattle.device.specs.declared.Geometry.{Geometry}
@@ -29,7 +30,7 @@ flatB o = outcome (o .out) (o .results) (flat (o .left))
 
 -- "create_dir_all's normal spelling .. above 480": the given spelling may be of any length.
 abbrev pub tooLong : List ℕ → Bool
-tooLong path = ltb 480 (length (normal path))
+tooLong path = ltb maxPath (length (normal path))
 
 -- "create_dir_all: 4, 8." 8, "more directories to hold than directory rows", counts the path and its ancestors as far as they are missing;
 -- else these are registered.

@@ -4,6 +4,7 @@
 use device::Geometry;
 use device::Place;
 use handles::Ended;
+use limits::MAX_PATH;
 use table::Pool;
 ghost use mathlib.Core.Path.{_≡_};
 ghost use Prim.Native.Nat.{_<_};
@@ -13,9 +14,6 @@ ghost use Rattle.table.specs.State.{bufs, bufsBefore, bufsAfter, view, IsPool};
 ghost use Rattle.steps.specs.World.{lent, viewW, Ready, before, after};
 ghost use Rattle.steps.specs.Outcome.{outcome, flatO};
 ghost use Rattle.folders.specs.Folders.{flatB, createDirAllM, existsM, metadataM, isDue, syncOneM, syncDirM};
-
-// The longest normal spelling of a directory.
-const MAX_PATH: usize = 480;
 
 // The number of create_dir_all, and the record after it.
 pub struct Made {
@@ -105,7 +103,7 @@ fn is_due(nums: &[u64], names: &[u8], cap: usize, n: usize, i: usize, path: &[u8
 {
     if rows::is_dirty(nums, names, cap, n, i) {
         let k = rows::path_len(nums, names, cap, n, i);
-        let from = i * 480;
+        let from = i * MAX_PATH;
         return path::is_parent(path, &names[from..from + k]);
     }
     false

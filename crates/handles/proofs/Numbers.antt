@@ -10,7 +10,7 @@ use Rattle.table.specs.Numbers.{isNumber}
 use Rattle.table.specs.State.{State}
 use Rattle.steps.specs.World.{World, world}
 use Rattle.steps.specs.Steps.{syncRowM}
-use Rattle.steps.specs.Numbers.{LastW, cut-last, either, flush-last, read-last, store-last, sync-row-last}
+use Rattle.steps.proofs.Numbers.{LastW, cut-last, either, flush-last, read-last, store-last, sync-row-last}
 use Rattle.steps.specs.Outcome.{Out, Outcome}
 use Rattle.handles.specs.Handles.{fileLenM, filling, isLive, onHandle, readAtM, readPart, resizedM, setLenM, syncM, writeAtM}
 

@@ -7,12 +7,12 @@ use borrow.Author.Tests.{lt-ltb, le-ltb, eq-eqb, ne-eqb}
 use lib.ListN.{length, take, drop, replicate}
 use lib.Seq.{take-length}
 use Rattle.le.specs.Le.{laid}
-use Rattle.le.specs.Parts.{laid-front, laid-whole}
+use Rattle.le.proofs.Parts.{laid-front, laid-whole}
 use Rattle.text.specs.Text.{isText}
 use Rattle.path.specs.Path.{components, samePath, hasParent, join, normal, parentOf}
 use Rattle.path.specs.Walk.{UpTo}
 use Rattle.header.specs.Block.{blockLen, maxPath, headerOf, encoded, decoded}
-use Rattle.header.specs.Laws.{short-absent}
+use Rattle.header.proofs.BlockLaws.{short-absent}
 use Rattle.harness.specs.Calls.{outcome, refusal, encodeCall, saidOf, decodeCall, textCall, sameCall, spelled, normalCall, parentCall, countedPool, recordCall, hits, lookupsCall}
 use Rattle.table.specs.declared.Pool.{Pool}
 use Rattle.table.specs.State.{State, bufs, view}

@@ -7,7 +7,7 @@ use native.Mathlib.Nat.{add-sub-cancel-left}
 use borrow.Author.Tests.{lt-ltb, le-ltb, eq-eqb, ne-eqb}
 use lib.ListN.{take, drop}
 use Rattle.fnv.specs.Fnv.{start32, prime32, fnvFrom}
-use Rattle.fnv.specs.Laws.{fnv1a-append}
+use Rattle.fnv.proofs.AnyWidth.{fnv1a-append}
 use Rattle.le.specs.Le.{field}
 use Rattle.text.specs.Text.{isText}
 use Rattle.header.specs.Block.{blockLen, magic, maxPath, headerOf, inUse, pathOf, checkOf, fieldsOf, decoded}

@@ -7,11 +7,11 @@ use native.Mathlib.Omega.{arith}
 use lib.ListN.{length, take, drop, replicate, length-append}
 use lib.Seq.{take-at}
 use Rattle.fnv.specs.Fnv.{start32, prime32, fnvFrom, fnv1a32}
-use Rattle.fnv.specs.Laws.{fnv1a-append}
+use Rattle.fnv.proofs.AnyWidth.{fnv1a-append}
 use Rattle.le.specs.Le.{le, laid}
-use Rattle.le.specs.Parts.{next}
+use Rattle.le.proofs.Parts.{next}
 use Rattle.header.specs.Block.{fixed, encoded}
-use Rattle.header.specs.Laws.{length-fixed}
+use Rattle.header.proofs.BlockLaws.{length-fixed}
 use Rattle.header.specs.declared.Header.{Header}
 
 drop-replicate : (k n x : ℕ) → drop k (replicate n x) ≡ replicate (n - k) x

@@ -8,14 +8,14 @@ use lib.Dec.{lit<, lit≤}
 use lib.ListN.{length, take, drop, replicate, length-append, length-take, length-drop, length-replicate, take-append-drop}
 use lib.Seq.{take-at, drop-at, take-append-le, take-take}
 use Rattle.fnv.specs.Fnv.{start32, prime32, fnv1a32}
-use Rattle.fnv.specs.Laws.{fnv1a-lt}
+use Rattle.fnv.proofs.AnyWidth.{fnv1a-lt}
 use Rattle.le.specs.Le.{le, field, Bytes}
-use Rattle.le.specs.Fields.{unle-le, unle-lt, bytes-take, bytes-drop, field-back}
-use Rattle.le.specs.Parts.{glue}
+use Rattle.le.proofs.Fields.{unle-le, unle-lt, bytes-take, bytes-drop, field-back}
+use Rattle.le.proofs.Parts.{glue}
 use Rattle.text.specs.Text.{isText, none}
 use Rattle.text.specs.Grammar.{text-complete}
 use Rattle.header.specs.Block.{blockLen, maxPath, headerOf, freeHeader, flagsOf, inUse, fixed, encoded, pathOf, decoded}
-use Rattle.header.specs.Laws.{length-fixed, found}
+use Rattle.header.proofs.BlockLaws.{length-fixed, found}
 use Rattle.header.specs.RoundTrip.{Fits, Table, ZeroTail, Layout, DecodeEncode, EncodeDecode, EncodeOneOutcome, DecodeOneOutcome, CutShortDecodes, CutFreeDecodes}
 use Rattle.header.specs.declared.Header.{Header}
 use Rattle.header.proofs.Decode.{fields-are}

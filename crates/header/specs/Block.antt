@@ -5,6 +5,7 @@ use mathlib.Core.Bool.{Bool, true, false, cond, not}
 use mathlib.Core.List.{List, _++_}
 use lib.ListN.{length, take, drop, replicate}
 use lib.Dec.{eqb, ltb}
+pub use Rattle.limits.specs.Limits.{maxPath}
 use Rattle.fnv.specs.Fnv.{fnv1a32}
 use Rattle.le.specs.Le.{le, field}
 use Rattle.text.specs.Text.{isText}
@@ -18,9 +19,6 @@ blockLen = 512
 
 abbrev pub magic : ℕ
 magic = 0x4F474552
-
-abbrev pub maxPath : ℕ
-maxPath = 480
 
 -- A header by its fields: in use, path length, file length, generation.
 abbrev pub headerOf : Bool → ℕ → ℕ → ℕ → Header

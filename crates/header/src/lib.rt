@@ -31,7 +31,7 @@ impl Header {
     pub const MAGIC: u64 = 0x4F47_4552;
 
     // The longest path.
-    pub const MAX_PATH: usize = 480;
+    pub const MAX_PATH: usize = limits::MAX_PATH;
 
     // The header of a slot that holds no file.
     pub fn free(generation: u64) -> Self

@@ -8,52 +8,53 @@ use mathlib.Core.List.{List, [], _∷_, _++_, List·Memᴰ·head, List·Memᴰ·
 use lib.ListN.{length, take, drop, getD, set, replicate, drop-of-length-le, length-set}
 use lib.Seq.{sets, drop-cons, take-append-le, take-all, length-take-le, getD-take}
 use borrow.Author.Tests.{lt-ltb, le-ltb}
+use Rattle.limits.specs.Limits.{maxPath, rowWidth, dirWidth, lastCounter}
 use Rattle.lists.specs.Blocks.{pad, cat}
 use Rattle.lists.specs.Distinct.{In}
 use Rattle.path.specs.Path.{normal, ancestors}
 use Rattle.path.specs.Theorems.{normal-short}
 use Rattle.rows.specs.Rows.{Row, none, at, isBound, pathOf, rowNums, rowName, rowsOf, flatNums, flatNames, Flat}
 use Rattle.rows.specs.Rows as Rows
-use Rattle.rows.specs.Laws.{nums-wide, name-wide, length-rows, nums-long, names-long}
+use Rattle.rows.proofs.InBuffers.{nums-wide, name-wide, length-rows, nums-long, names-long}
 use Rattle.dirs.specs.Dirs.{absent, joined, registered}
 use Rattle.dirs.specs.Rows.{dirRow, dirsOf, flatDirs, FlatDirs, Short}
-use Rattle.dirs.specs.RowLaws.{row-wide, length-dirs, dirs-short, dirs-of, dirs-long}
-use Rattle.dirs.specs.Joined.{joined-short}
-use Rattle.dirs.specs.Laws.{length-registered, ancestors-short}
+use Rattle.dirs.proofs.InBuffer.{row-wide, length-dirs, dirs-short, dirs-of, dirs-long}
+use Rattle.dirs.proofs.Joined.{joined-short}
+use Rattle.dirs.proofs.Registering.{length-registered, ancestors-short}
 use Rattle.table.specs.declared.Pool.{Pool}
 use Rattle.table.specs.Queue.{pushed}
 use Rattle.install.specs.declared.Registered.{Registered}
 use Rattle.survey.specs.Staged.{claimed, spares, vacated}
 use Rattle.install.specs.Install.{answered, kept, refusal, Three, three, Taken, unstaged, pushedAll}
-use Rattle.install.specs.Laws.{claimed-more, claimed-front, claimed-short, answered-yes, answered-no, kept-yes, kept-no, said-yes, said-no, flat-cut}
+use Rattle.install.proofs.StagedRows.{claimed-more, claimed-front, claimed-short, answered-yes, answered-no, kept-yes, kept-no, said-yes, said-no, flat-cut}
 
 -- ---- rows put back
 
-pub dirs-cut : (cap d e : ℕ) (b b₁ : List ℕ) → FlatDirs cap e b → d ≤ e → b₁ ≡ sets b (d * 482) (replicate ((e - d) * 482) 0) → b₁ ≡ flatDirs cap (take d (dirsOf b e))
+pub dirs-cut : (cap d e : ℕ) (b b₁ : List ℕ) → FlatDirs cap e b → d ≤ e → b₁ ≡ sets b (d * dirWidth) (replicate ((e - d) * dirWidth) 0) → b₁ ≡ flatDirs cap (take d (dirsOf b e))
 unfolding flatDirs
 dirs-cut cap d e b b₁ F h q =
     let n : length (dirsOf b e) ≡ e = length-dirs b e in
-    q ∙ ap (λ (x : List ℕ). sets x (d * 482) (replicate ((e - d) * 482) 0)) (sym (F .flat))
-    ∙ ap (λ (k : ℕ). sets (pad (cap * 482) (cat dirRow (dirsOf b e))) (d * 482) (replicate ((k - d) * 482) 0)) (sym n)
-    ∙ flat-cut dirRow 482 row-wide cap d (dirsOf b e) (omega arith) (omega (arith, F .few))
+    q ∙ ap (λ (x : List ℕ). sets x (d * dirWidth) (replicate ((e - d) * dirWidth) 0)) (sym (F .flat))
+    ∙ ap (λ (k : ℕ). sets (pad (cap * dirWidth) (cat dirRow (dirsOf b e))) (d * dirWidth) (replicate ((k - d) * dirWidth) 0)) (sym n)
+    ∙ flat-cut dirRow dirWidth row-wide cap d (dirsOf b e) (omega arith) (omega (arith, F .few))
 
 module _ (cap n m : ℕ) (l s : List ℕ) (F : Flat cap m l s) (h : n ≤ m) where
   rows-many : length (rowsOf l s m) ≡ m
   rows-many = length-rows l s m
 
-  pub nums-cut : (l₁ : List ℕ) → l₁ ≡ sets l (n * 4) (replicate ((m - n) * 4) 0) → l₁ ≡ flatNums cap (take n (rowsOf l s m))
+  pub nums-cut : (l₁ : List ℕ) → l₁ ≡ sets l (n * rowWidth) (replicate ((m - n) * rowWidth) 0) → l₁ ≡ flatNums cap (take n (rowsOf l s m))
   unfolding flatNums
   nums-cut l₁ q =
-      q ∙ ap (λ (x : List ℕ). sets x (n * 4) (replicate ((m - n) * 4) 0)) (sym (F .nums))
-      ∙ ap (λ (k : ℕ). sets (pad (cap * 4) (cat rowNums (rowsOf l s m))) (n * 4) (replicate ((k - n) * 4) 0)) (sym rows-many)
+      q ∙ ap (λ (x : List ℕ). sets x (n * rowWidth) (replicate ((m - n) * rowWidth) 0)) (sym (F .nums))
+      ∙ ap (λ (k : ℕ). sets (pad (cap * rowWidth) (cat rowNums (rowsOf l s m))) (n * rowWidth) (replicate ((k - n) * rowWidth) 0)) (sym rows-many)
       ∙ flat-cut rowNums 4 nums-wide cap n (rowsOf l s m) (omega (arith, rows-many)) (omega (arith, F .few, rows-many))
 
-  pub names-cut : (s₁ : List ℕ) → s₁ ≡ sets s (n * 480) (replicate ((m - n) * 480) 0) → s₁ ≡ flatNames cap (take n (rowsOf l s m))
+  pub names-cut : (s₁ : List ℕ) → s₁ ≡ sets s (n * maxPath) (replicate ((m - n) * maxPath) 0) → s₁ ≡ flatNames cap (take n (rowsOf l s m))
   unfolding flatNames
   names-cut s₁ q =
-      q ∙ ap (λ (x : List ℕ). sets x (n * 480) (replicate ((m - n) * 480) 0)) (sym (F .names))
-      ∙ ap (λ (k : ℕ). sets (pad (cap * 480) (cat rowName (rowsOf l s m))) (n * 480) (replicate ((k - n) * 480) 0)) (sym rows-many)
-      ∙ flat-cut rowName 480 name-wide cap n (rowsOf l s m) (omega (arith, rows-many)) (omega (arith, F .few, rows-many))
+      q ∙ ap (λ (x : List ℕ). sets x (n * maxPath) (replicate ((m - n) * maxPath) 0)) (sym (F .names))
+      ∙ ap (λ (k : ℕ). sets (pad (cap * maxPath) (cat rowName (rowsOf l s m))) (n * maxPath) (replicate ((k - n) * maxPath) 0)) (sym rows-many)
+      ∙ flat-cut rowName maxPath name-wide cap n (rowsOf l s m) (omega (arith, rows-many)) (omega (arith, F .few, rows-many))
 
 -- ---- one row's ancestors
 
@@ -69,7 +70,7 @@ module _ (cap d : ℕ) (b p : List ℕ) (F : FlatDirs cap d b) where
         let n : cap < length ds = omega (arith, length-registered (dirsOf b d) p, length-dirs b d) in
         (sym (answered-no cap d ds n), sym (kept-no cap ds b n))
 
-    pub row-room : length p ≤ 480 → (k : ℕ) → k ≡ length (absent (dirsOf b d) (ancestors q)) → k ≤ cap - d → (length (registered (dirsOf b d) q) ≤ cap) × (length (normal q) ≤ 480)
+    pub row-room : length p ≤ maxPath → (k : ℕ) → k ≡ length (absent (dirsOf b d) (ancestors q)) → k ≤ cap - d → (length (registered (dirsOf b d) q) ≤ cap) × (length (normal q) ≤ maxPath)
     row-room s k e h = (omega (arith, length-registered (dirsOf b d) q, length-dirs b d, F .few), omega (arith, normal-short q, ap length u))
 
     pub row-done : (e : ℕ) (b₁ : List ℕ) → dirsOf b₁ e ≡ registered (dirsOf b d) q → FlatDirs cap e b₁ → (record { ok = true; dirs = e } ≡ answered cap d ds) × (b₁ ≡ kept cap ds b)
@@ -79,10 +80,10 @@ module _ (cap d : ℕ) (b p : List ℕ) (F : FlatDirs cap d b) where
         let h : length ds ≤ cap = omega (arith, G .few) in
         (rw (← n) (sym (answered-yes cap d ds h)), sym (G .flat) ∙ ap (flatDirs cap) v ∙ sym (kept-yes cap ds b h))
 
-  ds-short : length p ≤ 480 → Short ds
+  ds-short : length p ≤ maxPath → Short ds
   ds-short h = joined-short (dirsOf b d) (ancestors p) (dirs-short b d) (ancestors-short p (omega (arith, normal-short p)))
 
-  pub row-view : length p ≤ 480 → (r : Registered) (b₁ : List ℕ) → r ≡ answered cap d ds → b₁ ≡ kept cap ds b → r .ok ≡ true
+  pub row-view : length p ≤ maxPath → (r : Registered) (b₁ : List ℕ) → r ≡ answered cap d ds → b₁ ≡ kept cap ds b → r .ok ≡ true
       → (dirsOf b₁ (r .dirs) ≡ ds) × FlatDirs cap (r .dirs) b₁
   row-view s r b₁ t k o =
       let y = said-yes cap d ds r t o in
@@ -242,17 +243,17 @@ module _ (cap dirCap n m d counter k : ℕ) (a : Three) (F : Flat cap m (a .nums
       pub found-more : d ≤ r .dirs
       found-more = omega (arith, said-yes dirCap d every r t yes .1, claimed-more (drop n (rowsOf (a .nums) (a .names) m)) (dirsOf (a .dirs) d), length-dirs (a .dirs) d)
 
-      pub refused-nine : (l s c : List ℕ) → 2 ^ 63 < counter + k → l ≡ flatNums cap (take n (rowsOf (a .nums) (a .names) m)) → s ≡ flatNames cap (take n (rowsOf (a .nums) (a .names) m))
+      pub refused-nine : (l s c : List ℕ) → lastCounter < counter + k → l ≡ flatNums cap (take n (rowsOf (a .nums) (a .names) m)) → s ≡ flatNames cap (take n (rowsOf (a .nums) (a .names) m))
           → c ≡ flatDirs dirCap (take d (dirsOf b (r .dirs))) → Says 9 0 (three l s c)
       unfolding refusal unstaged
       refused-nine l s c h e f g =
           let v : dirsOf b (r .dirs) ≡ every = found-flat .0 in
           let w : take d every ≡ dirsOf (a .dirs) d = ap (λ (x : ℕ). take x every) (sym (length-dirs (a .dirs) d)) ∙ claimed-front (drop n (rowsOf (a .nums) (a .names) m)) (dirsOf (a .dirs) d) in
-          (rw (le-ltb dirCap (length every) fit, lt-ltb (2 ^ 63) (counter + k) h), (λ z. absurd (omega arith), λ z. rw (e, f, g, v, w, G .flat)))
+          (rw (le-ltb dirCap (length every) fit, lt-ltb lastCounter (counter + k) h), (λ z. absurd (omega arith), λ z. rw (e, f, g, v, w, G .flat)))
 
-      pub accepted : counter + k ≤ 2 ^ 63 → Says 0 (r .dirs) (three (a .nums) (a .names) b)
+      pub accepted : counter + k ≤ lastCounter → Says 0 (r .dirs) (three (a .nums) (a .names) b)
       unfolding refusal
       accepted h = (
-        rw (le-ltb dirCap (length every) fit, le-ltb (2 ^ 63) (counter + k) h),
+        rw (le-ltb dirCap (length every) fit, le-ltb lastCounter (counter + k) h),
         (λ z. record { count = said-yes dirCap d every r t yes .1; few = fit; rows = ap (three (a .nums) (a .names)) lies }, λ z. absurd (z refl)),
       )

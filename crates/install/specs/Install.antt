@@ -7,6 +7,7 @@ use mathlib.Core.List.{List, [], _∷_}
 use lib.Dec.{leb, ltb}
 use lib.ListN.{length, take, drop}
 use denote.Ref.{now}
+use Rattle.limits.specs.Limits.{lastCounter}
 use Rattle.lists.specs.Lends.{Run}
 use Rattle.rows.specs.Rows.{Row, rowsOf, flatNums, flatNames}
 use Rattle.dirs.specs.Rows.{dirsOf, flatDirs}
@@ -25,7 +26,7 @@ kept cap ds b = cond (leb (length ds) cap) (flatDirs cap ds) b
 
 -- 8, "more directories to hold than directory rows"; 9, "counter + generations needed above 2^63", which is one for each of k losers; or 0.
 unfoldable pub refusal : ℕ → List (List ℕ) → ℕ → ℕ → ℕ
-refusal cap ds counter k = cond (ltb cap (length ds)) 8 (cond (ltb (2 ^ 63) (counter + k)) 9 0)
+refusal cap ds counter k = cond (ltb cap (length ds)) 8 (cond (ltb lastCounter (counter + k)) 9 0)
 
 -- The three row buffers.
 pub record Three : Type 0 where

@@ -2,6 +2,10 @@
 // bound where the header claims a path, and the losers are known; here the claims' ancestors are registered, the spare slots are queued,
 // the losers are unbound, and the record counts the new slots. Two refusals are found here, 8 (more directories to hold than directory
 // rows) and 9 (no generation left for each loser): then rows and directories are put back.
+use limits::DIR_WIDTH;
+use limits::LAST_COUNTER;
+use limits::MAX_PATH;
+use limits::ROW_WIDTH;
 use table::Pool;
 ghost use mathlib.Core.Path.{_≡_};
 ghost use mathlib.Core.Bool.{cond};
@@ -28,9 +32,6 @@ pub struct Accepted {
     pub dirs: usize,
 }
 
-// The highest counter.
-const HIGHEST: u64 = 0x8000_0000_0000_0000;
-
 // ---- put back
 
 // The directory rows from d to e - 1 are zero again.
@@ -38,7 +39,7 @@ pub fn clear_dirs(dirs: &mut [u8], cap: usize, d: usize, e: usize)
     requires { ⌜ FlatDirs cap e (now dirs) × (d ≤ e) ⌝ }
     ensures { λ _. ⌜ now (dirs .exit) ≡ flatDirs cap (take d (dirsOf (now (dirs .entry)) e)) ⌝ }
 {
-    rows::zero_in(dirs, d * 482, (e - d) * 482);
+    rows::zero_in(dirs, d * DIR_WIDTH, (e - d) * DIR_WIDTH);
 }
 
 // The slot rows from n to m - 1 are zero again.
@@ -48,8 +49,8 @@ pub fn unstage(nums: &mut [u64], names: &mut [u8], cap: usize, n: usize, m: usiz
     ensures names { λ _. ⌜ now (names .exit) ≡ flatNames cap (take n (rowsOf (now (nums .entry)) (now (names .entry)) m)) ⌝ }
 {
     let k = m - n;
-    rows::zero_nums(nums, n * 4, k * 4);
-    rows::zero_in(names, n * 480, k * 480);
+    rows::zero_nums(nums, n * ROW_WIDTH, k * ROW_WIDTH);
+    rows::zero_in(names, n * MAX_PATH, k * MAX_PATH);
 }
 
 // ---- the claims' ancestors
@@ -73,7 +74,7 @@ fn register_row(
         ≡ kept «dir_cap» (registered (dirsOf (now (dirs .entry)) d) (pathOf (at (rowsBefore nums names m) i))) (now (dirs .entry)) ⌝ }
 {
     let k = rows::path_len(nums, names, cap, m, i);
-    let from = i * 480;
+    let from = i * MAX_PATH;
     let more = dirs::missing(dirs, d, &names[from..from + k]);
     if dir_cap - d < more {
         return Registered { ok: false, dirs: d };
@@ -150,7 +151,7 @@ pub fn accept(
         unstage(nums, names, cap, n, m);
         return Accepted { out: 8, dirs: 0 };
     }
-    if HIGHEST - (losers as u64) < counter {
+    if LAST_COUNTER - (losers as u64) < counter {
         clear_dirs(dirs, dir_cap, d, e);
         unstage(nums, names, cap, n, m);
         return Accepted { out: 9, dirs: 0 };

@@ -8,7 +8,7 @@ use native.Mathlib.Omega.{arith}
 use lib.ListN.{length, getD, take, drop, set, length-drop}
 use lib.Seq.{drop-cons, take-suc-set, append-snoc}
 use Rattle.le.specs.Le.{le, unle, Bytes}
-use Rattle.le.specs.Fields.{unle-lt, bytes-drop}
+use Rattle.le.proofs.Fields.{unle-lt, bytes-drop}
 
 -- The end of at most eight bytes fits 64 bits.
 pub end-fits : (s : List ℕ) (j : ℕ) → Bytes s → length s ≤ 8 → unle (drop j s) < 2 ^ 64

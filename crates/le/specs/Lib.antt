@@ -1,3 +1,4 @@
+-- Contents of specs/: the definitions that the contracts cite, their examples, and theorems.
+
+-- Little-endian fields, and a part laid into a list.
 pub mod Le
-pub mod Fields
-pub mod Parts

@@ -7,6 +7,7 @@ use mathlib.Core.List.{List, [], _∷_, _++_, map}
 use lib.ListN.{length, getD, take, drop, replicate, length-append}
 use lib.Seq.{sets, sets-eq, length-sets, take-at}
 use borrow.Author.Tests.{le-leb, lt-leb}
+use Rattle.limits.specs.Limits.{dirWidth}
 use Rattle.lists.specs.Blocks.{cat}
 use Rattle.lists.specs.Runs.{range}
 use Rattle.lists.specs.Sort.{keep, sort}
@@ -14,15 +15,15 @@ use Rattle.path.specs.Path.{isParent}
 use Rattle.rows.specs.Rows.{Row, none, at, pathOf, rowsOf, Flat}
 use Rattle.dirs.specs.Dirs.{hasPath}
 use Rattle.dirs.specs.Rows.{dirsOf, FlatDirs}
-use Rattle.dirs.specs.RowLaws.{dirs-long}
+use Rattle.dirs.proofs.InBuffer.{dirs-long}
 use Rattle.table.specs.State.{Bufs, view, IsPool}
-use Rattle.table.specs.Laws.{pool-rows, pool-dirs}
+use Rattle.table.specs.InBuffers.{pool-rows, pool-dirs}
 use Rattle.order.specs.Spans.{spelled, AllInside, before, inOrder, fileSpan, dirSpan}
-use Rattle.order.specs.Laws.{spelled-sort}
+use Rattle.order.specs.InOrder.{spelled-sort}
 use Rattle.order.specs.Picks.{picks-few, picks-inside, picked-rows, spell-each, file-inside, file-spelled, dir-inside, dir-spelled}
 use Rattle.listing.specs.Listing.{isChild, filesIn, dirsIn, entry, listingOf, listing, fitted, readDirM}
 use Rattle.listing.specs.Parts.{childFiles, childDirs, entries, sizeOf}
-use Rattle.listing.proofs.Laws.{child-files, child-dirs, size-few, entries-long, entries-sorted}
+use Rattle.listing.proofs.Ways.{child-files, child-dirs, size-few, entries-long, entries-sorted}
 
 -- ---- the front of an array that parts were written to
 
@@ -81,13 +82,13 @@ module _ (b : Bufs) (P : IsPool b) (path : List ℕ) where
   unfolding view
   dirs-few = omega (arith, G .few, P .valid .counts .dirs-small)
 
-  pub dirs-lent : b .pool .dirs * 482 ≤ length (b .dirs)
+  pub dirs-lent : b .pool .dirs * dirWidth ≤ length (b .dirs)
   dirs-lent = omega (arith, dirs-long (b .pool .chosen .«dir_rows») (b .pool .dirs) (b .dirs) G, G .few)
 
   pub files-ready : Flat (b .pool .chosen .rows) (b .pool .held) (b .nums) (b .names) × (b .pool .held ≤ 256) × (b .pool .held ≤ 64)
   files-ready = (F, omega (arith, few), few)
 
-  pub dirs-ready : (b .pool .dirs * 482 ≤ length (b .dirs)) × (b .pool .dirs ≤ 256) × (b .pool .dirs ≤ 256)
+  pub dirs-ready : (b .pool .dirs * dirWidth ≤ length (b .dirs)) × (b .pool .dirs ≤ 256) × (b .pool .dirs ≤ 256)
   dirs-ready = (dirs-lent, dirs-few, dirs-few)
 
   -- ---- what was picked

@@ -19,7 +19,7 @@ use Rattle.dirs.specs.Dirs.{Normals, hasPath}
 use Rattle.table.specs.Numbers.{isNumber}
 use Rattle.table.specs.State.{State, Valid}
 use Rattle.order.specs.Spans.{pathBefore, inOrder}
-use Rattle.order.specs.Laws.{map-sort}
+use Rattle.order.specs.InOrder.{map-sort}
 use Rattle.order.specs.Picks.{picked-rows}
 use Rattle.order.specs.Theorems.{path-strict, path-one-way, rows-rise}
 use Rattle.listing.specs.Listing.{isChild, filesIn, dirsIn, listingOf, listing, fitted, readDirM}

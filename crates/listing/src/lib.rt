@@ -1,12 +1,15 @@
 // `read_dir` of pool.rs: what `flat_children` (env/mod.rs) gives of the files and of the directories, written in order into a lent buffer.
 // It refuses with 5 (not a directory) and with 13 (the buffer is too small), and then changes nothing. The caller has seen that the buffers
 // are a pool, and that the path is text. Names stay where they are: only the parts that they stand in are picked and put in order.
+use limits::DIR_WIDTH;
+use limits::MAX_PATH;
 use table::Pool;
 ghost use mathlib.Core.Path.{_≡_};
 ghost use mathlib.Core.List.{[], _++_};
 ghost use Prim.Native.Nat.{_+_, _*_, _≤_, _<_};
 ghost use lib.ListN.{length, getD};
 ghost use lib.Seq.{sets};
+ghost use Rattle.limits.specs.Limits.{dirWidth};
 ghost use Rattle.lists.specs.Sort.{sort};
 ghost use Rattle.path.specs.Path.{isParent};
 ghost use Rattle.rows.specs.Rows.{at, rowsOf, Flat};
@@ -29,7 +32,7 @@ fn is_child(nums: &[u64], names: &[u8], cap: usize, n: usize, dir: &[u8], i: usi
 {
     if rows::is_bound(nums, names, cap, n, i) {
         let k = rows::path_len(nums, names, cap, n, i);
-        let from = i * 480;
+        let from = i * MAX_PATH;
         return path::is_parent(dir, &names[from..from + k]);
     }
     false
@@ -37,11 +40,11 @@ fn is_child(nums: &[u64], names: &[u8], cap: usize, n: usize, dir: &[u8], i: usi
 
 // Whether the parent of directory row j is dir.
 fn is_child_dir(dirs: &[u8], m: usize, dir: &[u8], j: usize) -> bool
-    requires { ⌜ (m * 482 ≤ length (now dirs)) × (j < m) ⌝ }
+    requires { ⌜ (m * dirWidth ≤ length (now dirs)) × (j < m) ⌝ }
     ensures { λ r. ⌜ r ≡ isParent (now (dir .entry)) (getD (dirsOf (now (dirs .entry)) m) j []) ⌝ }
 {
     let k = dirs::dir_len(dirs, j);
-    let from = j * 482 + 2;
+    let from = j * DIR_WIDTH + 2;
     path::is_parent(dir, &dirs[from..from + k])
 }
 
@@ -75,7 +78,7 @@ fn child_files(
 
 // Writes the spellings of the directory's directories, by row, to the front of spans, and says how many they are.
 fn child_dirs(dirs: &[u8], m: usize, dir: &[u8], spans: &mut [u32]) -> usize
-    requires { ⌜ (m * 482 ≤ length (now dirs)) × (m ≤ 256) × (m ≤ length (now spans)) ⌝ }
+    requires { ⌜ (m * dirWidth ≤ length (now dirs)) × (m ≤ 256) × (m ≤ length (now spans)) ⌝ }
     ensures count { λ r. ⌜ r ≡ length (childDirs (now (dir .entry)) (dirsOf (now (dirs .entry)) m)) ⌝ }
     ensures picked { λ _. ⌜
         now (spans .exit) ≡ sets (now (spans .entry)) 0 (childDirs (now (dir .entry)) (dirsOf (now (dirs .entry)) m)) ⌝ }

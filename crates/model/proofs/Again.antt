@@ -4,12 +4,13 @@ use Prim.Native.Nat.{ℕ, _+_, _≤_, _<_, _^_}
 use native.Mathlib.Omega.{arith}
 use mathlib.Core.Path.{_≡_, ap}
 use lib.ListN.{length}
+use Rattle.limits.specs.Limits.{lastCounter}
 use Rattle.lists.specs.Distinct.{In, distinct-le}
 use Rattle.model.specs.Model.{Head, unbound, bound, Kit}
 use Rattle.model.specs.Model as M
 use Rattle.model.specs.Best.{Registered}
 use Rattle.model.specs.Promise.{SameFiles, SameDirs}
-use Rattle.model.specs.Laws.{bound≢unbound}
+use Rattle.model.proofs.Loops.{bound≢unbound}
 use Rattle.model.proofs.Rows.{inside}
 use Rattle.model.proofs.Invariant.{Holders, Held}
 use Rattle.model.proofs.Pool.{Pool, mount-pool}
@@ -60,7 +61,7 @@ module _ (K : Kit) where
     unfolding SameDirs
     again-dirs d = (dirs-to d, dirs-fro d)
 
-    pub again-accepts : (dirRows : ℕ) → length (s .dirs) ≤ dirRows → s .counter + length ((M.survey K k (M.empty K (s .device))) .losers) ≤ 2 ^ 63
+    pub again-accepts : (dirRows : ℕ) → length (s .dirs) ≤ dirRows → s .counter + length ((M.survey K k (M.empty K (s .device))) .losers) ≤ lastCounter
         → M.Accepts K N dirRows k (M.empty K (s .device))
     again-accepts dirRows dirs gens =
         record {

@@ -8,9 +8,10 @@ use mathlib.Core.Logic.{_≢_, _⊎_, inl, inr}
 use mathlib.Core.Bool.{Bool, true, false}
 use mathlib.Core.List.{List, _∷_, List·Memᴰ·head}
 use lib.ListN.{length}
+use Rattle.limits.specs.Limits.{lastCounter}
 use Rattle.model.specs.Model.{Claim, Head, idle, claim, unbound, bound, Kit}
 use Rattle.model.specs.Model as M
-use Rattle.model.specs.Laws.{idle≢claim, bound≢unbound}
+use Rattle.model.proofs.Loops.{idle≢claim, bound≢unbound}
 use Rattle.model.proofs.Rows.{inside}
 use Rattle.model.proofs.Invariant.{Holders}
 use Rattle.model.proofs.Moves.{Unheld, Moves, step-moves, release-length, release-back}
@@ -66,7 +67,7 @@ module _ (K : Kit) where
       under i (no u) l = let v = newest i u l in rw (v, q) (omega (arith, step-counter K s h))
       under i (yes u) l = omega (arith, step-counter K s h, C .under i u)
 
-  release-card : (N : ℕ) (H : ℕ → Head Path) (s : M.State K) (i : ℕ) (ls : List ℕ) → Fit K N H s (i ∷ ls) → s .counter < 2 ^ 63 → Card H s → Card H (M.release K s i)
+  release-card : (N : ℕ) (H : ℕ → Head Path) (s : M.State K) (i : ℕ) (ls : List ℕ) → Fit K N H s (i ∷ ls) → s .counter < lastCounter → Card H s → Card H (M.release K s i)
   unfolding M.release
   release-card N H s i ls F top C =
       record {
@@ -124,7 +125,7 @@ module _ (K : Kit) where
 
   -- the releases to come have generations left
   abbrev Room : List ℕ → M.State K → Type 0
-  Room ls s = s .counter + length ls ≤ 2 ^ 63
+  Room ls s = s .counter + length ls ≤ lastCounter
 
   steady : (N : ℕ) (H : ℕ → Head Path) → Steady K N H Room (λ s ls. Card H s)
   unfolding M.release

@@ -10,7 +10,7 @@ use mathlib.Core.List.{List, [], _∷_, _++_, List·Memᴰ·head}
 use lib.ListN.{length, set, length-append}
 use Rattle.model.specs.Model.{Claim, Head, absent, idle, claim, Row, unbound, bound, Kit}
 use Rattle.model.specs.Model as M
-use Rattle.model.specs.Laws.{unbound≢bound}
+use Rattle.model.proofs.Loops.{unbound≢bound}
 use Rattle.model.proofs.Rows.{length-snoc}
 use Rattle.model.proofs.Moves.{Unheld}
 use Rattle.model.proofs.Pool.{Fit, Pool, release-fit, survey-fit}

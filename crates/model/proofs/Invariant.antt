@@ -11,8 +11,8 @@ use lib.Seq.{getD-set-other, getD-append-seam}
 use borrow.Author.Tests.{leb-true, leb-false}
 use Rattle.model.specs.Model.{Claim, Head, absent, idle, claim, Row, unbound, bound, Kit}
 use Rattle.model.specs.Model as M
-use Rattle.model.specs.Laws as L
-use Rattle.model.specs.Laws.{unbound≢bound, bound≢unbound, absent≢claim, idle≢claim}
+use Rattle.model.proofs.Loops as L
+use Rattle.model.proofs.Loops.{unbound≢bound, bound≢unbound, absent≢claim, idle≢claim}
 use Rattle.model.proofs.Rows.{length-snoc, snoc-cases, inside, snoc-old, set-cases}
 
 module _ (K : Kit) where

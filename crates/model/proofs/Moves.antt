@@ -12,7 +12,7 @@ use lib.Seq.{getD-set-other, getD-append-seam}
 use Rattle.lists.specs.Distinct.{In, snoc-in}
 use Rattle.model.specs.Model.{Claim, Head, absent, idle, claim, Row, unbound, bound, Kit}
 use Rattle.model.specs.Model as M
-use Rattle.model.specs.Laws.{unbound≢bound, bound≢unbound, absent≢claim, idle≢claim}
+use Rattle.model.proofs.Loops.{unbound≢bound, bound≢unbound, absent≢claim, idle≢claim}
 use Rattle.model.proofs.Rows.{length-snoc, snoc-cases, inside, snoc-old, set-cases}
 
 pub last : {A : Type 0} (l : List A) (a : A) → In a (l ++ (a ∷ []))

@@ -8,11 +8,12 @@ use mathlib.Core.Logic.{_≢_, _⊎_, inl, inr, _↔_}
 use mathlib.Core.Bool.{true}
 use mathlib.Core.List.{List, [], _∷_, List·Memᴰ·head, List·Memᴰ·not-nil, List·Memᴰ·cases-cons, Memᴰ·append-left}
 use lib.ListN.{length}
+use Rattle.limits.specs.Limits.{lastCounter}
 use Rattle.lists.specs.Distinct.{In}
 use Rattle.model.specs.Model.{Claim, Head, claim, Row, bound, Kit}
 use Rattle.model.specs.Model as M
 use Rattle.model.specs.Promise.{SameFiles, SameFree, AllFine, NoneFails}
-use Rattle.model.specs.Laws.{idle≢claim}
+use Rattle.model.proofs.Loops.{idle≢claim}
 use Rattle.model.proofs.Invariant.{Holders}
 use Rattle.model.proofs.Winner.{holders-agree}
 use Rattle.model.proofs.Moves.{last, Unheld, Place, held, pending, spare, Moves, step-moves, release-length, release-keeps}
@@ -52,7 +53,7 @@ module _ (K : Kit) where
       go (yes u) = old (head (s .device) i) (C i u)
       go (no u) = let v : i ≡ length (s .rows) = omega (arith, mv .size) in rw (v, q) (mv .here)
 
-  release-calm : (N : ℕ) (H : ℕ → Head Path) (s : M.State K) (i : ℕ) (ls : List ℕ) → Fit K N H s (i ∷ ls) → s .counter < 2 ^ 63 → fine (s .device) i (s .counter) ≡ true
+  release-calm : (N : ℕ) (H : ℕ → Head Path) (s : M.State K) (i : ℕ) (ls : List ℕ) → Fit K N H s (i ∷ ls) → s .counter < lastCounter → fine (s .device) i (s .counter) ≡ true
       → Calm s (i ∷ ls) → Calm (M.release K s i) ls
   unfolding Calm M.release
   release-calm N H s i ls F top f C j l = place (ℕ-discrete j i) (C j (omega (arith, release-length K s i)))
@@ -87,7 +88,7 @@ module _ (K : Kit) where
 
   -- the releases to come all succeed, and have generations left
   abbrev Fine : List ℕ → M.State K → Type 0
-  Fine ls s = AllFine K ls s × (s .counter + length ls ≤ 2 ^ 63)
+  Fine ls s = AllFine K ls s × (s .counter + length ls ≤ lastCounter)
 
   steady : (N : ℕ) (H : ℕ → Head Path) → Steady K N H Fine Calm
   unfolding AllFine Calm M.release

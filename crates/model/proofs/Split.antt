@@ -9,8 +9,8 @@ use mathlib.Core.List.{[]}
 use lib.ListN.{length}
 use Rattle.model.specs.Model.{Claim, Head, Row, unbound, bound, Kit}
 use Rattle.model.specs.Model as M
-use Rattle.model.specs.Laws as L
-use Rattle.model.specs.Laws.{unbound≢bound}
+use Rattle.model.proofs.Loops as L
+use Rattle.model.proofs.Loops.{unbound≢bound}
 use Rattle.model.specs.Promise.{SameFiles}
 use Rattle.model.proofs.Invariant.{Holders}
 use Rattle.model.proofs.Winner.{holders-agree, holders-heads}

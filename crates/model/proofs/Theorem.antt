@@ -5,6 +5,7 @@ use native.Mathlib.Omega.{arith}
 use mathlib.Core.Path.{_≡_, ap, sym, _∙_}
 use mathlib.Core.List.{[]}
 use lib.ListN.{length}
+use Rattle.limits.specs.Limits.{lastCounter}
 use Rattle.model.specs.Model.{Head, Kit}
 use Rattle.model.specs.Model as M
 use Rattle.model.specs.Best.{Registered}
@@ -31,7 +32,7 @@ module _ (K : Kit) where
   -- the next mount of a pool with room for its directories
   module _ (slots dirRows k : ℕ) (H : ℕ → Head Path) (s : M.State K) (p : Pool K slots H k s) (C : Card K H s) (R : Registered K H k (s .dirs))
       (dirs : length (s .dirs) ≤ dirRows) where
-    again : Calm K s [] → s .counter ≤ 2 ^ 63 → Again K slots dirRows k s
+    again : Calm K s [] → s .counter ≤ lastCounter → Again K slots dirRows k s
     again calm gens =
         let files = again-files K slots H k s p C R in
         let held = now K slots H k s p C R in

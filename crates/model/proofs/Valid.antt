@@ -13,7 +13,7 @@ use Rattle.lists.specs.Distinct.{In, snoc-in, Distinct, none, more, distinct-sn
 use Rattle.model.specs.Model.{Claim, Head, absent, idle, claim, Row, unbound, bound, Kit}
 use Rattle.model.specs.Model as M
 use Rattle.model.specs.Valid.{genOf, Valid, AdoptKeeps, MountMakes}
-use Rattle.model.specs.Laws.{bound≢unbound, unbound≢bound, absent≢claim}
+use Rattle.model.proofs.Loops.{bound≢unbound, unbound≢bound, absent≢claim}
 use Rattle.model.proofs.Rows.{snoc-cases, set-either, inside}
 use Rattle.model.proofs.Pool.{Fit, Pool, Steady, adopt-pool, adopt-steady}
 use Rattle.model.proofs.Dirs.{survey-dirs, adopt-dirs, dirsOf-once}

@@ -10,8 +10,8 @@ use lib.ListN.{length}
 use Rattle.model.specs.Model.{Claim, Head, claim, Row, unbound, bound, Kit}
 use Rattle.model.specs.Model as M
 use Rattle.model.specs.Best.{Best, Rule}
-use Rattle.model.specs.Laws as L
-use Rattle.model.specs.Laws.{bound≢unbound}
+use Rattle.model.proofs.Loops as L
+use Rattle.model.proofs.Loops.{bound≢unbound}
 use Rattle.model.proofs.Rows.{inside}
 use Rattle.model.proofs.Invariant.{Held, Holders}
 

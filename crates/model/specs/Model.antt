@@ -8,6 +8,7 @@ use mathlib.Core.Bool.{Bool, true, false, cond, _||_}
 use mathlib.Core.List.{List, [], _∷_, _++_}
 use lib.ListN.{length, getD, set}
 use lib.Dec.{leb}
+use Rattle.limits.specs.Limits.{lastCounter}
 
 -- What a claim says: a path as it is spelled, a generation and a file length.
 pub record Claim (Path : Type 0) : Type 0 where
@@ -60,8 +61,8 @@ pub record Kit : Type 1 where
   -- or as before
   pub has-free : (w : Device) (n i g : ℕ) → Has w n → i < n → Has (free w i g) n
   pub keeps : (w : Device) (n i g j : ℕ) → Has w n → i < n → j < n → j ≢ i → head (free w i g) j ≡ head w j
-  pub frees : (w : Device) (n i g : ℕ) → Has w n → i < n → g < 2 ^ 63 → fine w i g ≡ true → head (free w i g) i ≡ idle g
-  pub stays : (w : Device) (n i g : ℕ) → Has w n → i < n → g < 2 ^ 63 → fine w i g ≡ false → (head (free w i g) i ≡ head w i) ⊎ (head (free w i g) i ≡ idle g)
+  pub frees : (w : Device) (n i g : ℕ) → Has w n → i < n → g < lastCounter → fine w i g ≡ true → head (free w i g) i ≡ idle g
+  pub stays : (w : Device) (n i g : ℕ) → Has w n → i < n → g < lastCounter → fine w i g ≡ false → (head (free w i g) i ≡ head w i) ⊎ (head (free w i g) i ≡ idle g)
 
 module _ (K : Kit) where
   open Kit K using (Path, same, Dir, eqDir, ancestors, Device, head, seen, free, fine)
@@ -201,4 +202,4 @@ module _ (K : Kit) where
   pub record Accepts (slots dirRows n : ℕ) (s : State) : Type 0 where
     pub slots-fit : length (s .rows) + n ≤ slots
     pub dirs-fit : length ((survey n s) .dirs) ≤ dirRows
-    pub gens-fit : (survey n s) .counter + length ((survey n s) .losers) ≤ 2 ^ 63
+    pub gens-fit : (survey n s) .counter + length ((survey n s) .losers) ≤ lastCounter

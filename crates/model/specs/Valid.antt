@@ -5,6 +5,7 @@ use mathlib.Core.Path.{_≡_}
 use mathlib.Core.Logic.{_≢_}
 use mathlib.Core.Bool.{true}
 use lib.ListN.{length}
+use Rattle.limits.specs.Limits.{lastCounter}
 use Rattle.lists.specs.Distinct.{In, Distinct}
 use Rattle.model.specs.Model.{Claim, Row, unbound, bound, Kit}
 use Rattle.model.specs.Model as M
@@ -22,7 +23,7 @@ module _ (K : Kit) where
     pub paths : (i j : ℕ) (c d : Claim Path) → M.rowAt K (s .rows) i ≡ bound c → M.rowAt K (s .rows) j ≡ bound d → same (c .path) (d .path) ≡ true → i ≡ j
     -- "generations below the counter, counter 1 to 2^63"
     pub gens : (i : ℕ) → genOf (M.rowAt K (s .rows) i) < s .counter
-    pub counter : (1 ≤ s .counter) × (s .counter ≤ 2 ^ 63)
+    pub counter : (1 ≤ s .counter) × (s .counter ≤ lastCounter)
     -- "the free queue holds distinct unbound slots"
     pub queued : (i : ℕ) → In i (s .queue) → (i < length (s .rows)) × ((c : Claim Path) → M.rowAt K (s .rows) i ≢ bound c)
     pub once : Distinct (s .queue)

@@ -8,32 +8,33 @@ use lib.Dec.{ltb, eqb}
 use lib.ListN.{length, take, drop, length-append, length-map}
 use lib.Seq.{take-at, drop-at}
 use borrow.Author.Tests.{lt-ltb, le-ltb, ltb-true, ltb-false}
+use Rattle.limits.specs.Limits.{lastCounter}
 use Rattle.lists.specs.Blocks.{pad, take-pad}
 use Rattle.lists.specs.Distinct.{In}
 use Rattle.device.specs.declared.Place.{Place}
 use Rattle.device.specs.declared.Geometry.{Geometry}
 use Rattle.device.specs.Device.{Dev, dev, Shape}
 use Rattle.rows.specs.Rows.{Row, rowsOf, flatNums, flatNames, Flat}
-use Rattle.rows.specs.Laws.{length-rows}
+use Rattle.rows.proofs.InBuffers.{length-rows}
 use Rattle.dirs.specs.Rows.{dirsOf, flatDirs, FlatDirs}
-use Rattle.dirs.specs.RowLaws.{dirs-of}
+use Rattle.dirs.proofs.InBuffer.{dirs-of}
 use Rattle.table.specs.declared.Pool.{Pool}
 use Rattle.table.specs.State.{State, Valid, Bufs, bufs, view, poolOf, flat, IsPool}
-use Rattle.table.specs.Laws.{pool-canon, pool-rows, pool-dirs, queue-fits, queue-few, together}
+use Rattle.table.specs.InBuffers.{pool-canon, pool-rows, pool-dirs, queue-fits, queue-few, together}
 use Rattle.steps.specs.World.{World, world, Lent, lent, viewW, flatW, Fit, Ready}
-use Rattle.steps.specs.Laws.{world-is, ready-fit, lent-stays}
+use Rattle.steps.proofs.Stays.{world-is, ready-fit, lent-stays}
 use Rattle.steps.specs.Outcome.{only, flatO}
 use Rattle.survey.specs.Staged.{claimed, spares, vacated}
-use Rattle.survey.specs.Laws.{scan-rows, scan-length, scan-free, scan-dirs, asked-room, asked-over, asked-same}
+use Rattle.survey.proofs.Surveyed.{scan-rows, scan-length, scan-free, scan-dirs, asked-room, asked-over, asked-same}
 use Rattle.install.specs.Install.{refusal, Three, three, Taken, unstaged, pushedAll, holding}
-use Rattle.install.specs.Laws.{queuedAll, push-all}
+use Rattle.install.proofs.StagedRows.{queuedAll, push-all}
 use Rattle.survey.specs.Heads.{Head, Reads, readsM}
 use Rattle.survey.specs.Survey.{Survey, survey, scan}
 use Rattle.survey.specs.Claims.{rowOf, askedOf, losersOf}
-use Rattle.survey.specs.Losers.{scan-losers}
+use Rattle.survey.proofs.Losers.{scan-losers}
 use Rattle.mount.specs.Mount.{begin, installed, drain, Due, moved, settle, afterReads, tooMany, adoptM}
-use Rattle.mount.specs.Keeps.{reads-fine, Keeps}
-use Rattle.mount.specs.Laws.{room-for, scanned, installed-fit, losers-due}
+use Rattle.mount.proofs.SurveyKeeps.{reads-fine, Keeps}
+use Rattle.mount.proofs.Stays.{room-for, scanned, installed-fit, losers-due}
 
 -- ---- 8, 9, or done
 
@@ -45,27 +46,27 @@ refusal-settles plan g v w o e ne = eight (ltb (w .state .chosen .«dir_rows») 
     nine true q = rw q
     nine false q = absurd (ne q)
 
-    eight : (t : Bool) → o ≡ cond t 8 (cond (ltb (2 ^ 63) (v .counter + length (v .losers))) 9 0)
-        → cond t (only 8 w) (cond (ltb (2 ^ 63) (v .counter + length (v .losers))) (only 9 w) (only 0 (drain plan g (v .losers) (world (w .dev) (installed (w .state) v))))) ≡ only o w
+    eight : (t : Bool) → o ≡ cond t 8 (cond (ltb lastCounter (v .counter + length (v .losers))) 9 0)
+        → cond t (only 8 w) (cond (ltb lastCounter (v .counter + length (v .losers))) (only 9 w) (only 0 (drain plan g (v .losers) (world (w .dev) (installed (w .state) v))))) ≡ only o w
     eight true q = rw q
-    eight false q = nine (ltb (2 ^ 63) (v .counter + length (v .losers))) q
+    eight false q = nine (ltb lastCounter (v .counter + length (v .losers))) q
 
 accepted-settles : (plan : List ℕ) (g : Geometry) (v : Survey) (w : World) → 0 ≡ refusal (w .state .chosen .«dir_rows») (v .dirs) (v .counter) (length (v .losers))
-    → (settle plan g v w ≡ only 0 (drain plan g (v .losers) (world (w .dev) (installed (w .state) v)))) × (length (v .dirs) ≤ w .state .chosen .«dir_rows») × (v .counter + length (v .losers) ≤ 2 ^ 63)
+    → (settle plan g v w ≡ only 0 (drain plan g (v .losers) (world (w .dev) (installed (w .state) v)))) × (length (v .dirs) ≤ w .state .chosen .«dir_rows») × (v .counter + length (v .losers) ≤ lastCounter)
 unfolding settle refusal
 accepted-settles plan g v w e = eight (ltb (w .state .chosen .«dir_rows») (length (v .dirs))) refl e
   where
-    nine : (t : Bool) → ltb (2 ^ 63) (v .counter + length (v .losers)) ≡ t → _≡_ {A = ℕ} 0 (cond t 9 0) → length (v .dirs) ≤ w .state .chosen .«dir_rows»
+    nine : (t : Bool) → ltb lastCounter (v .counter + length (v .losers)) ≡ t → _≡_ {A = ℕ} 0 (cond t 9 0) → length (v .dirs) ≤ w .state .chosen .«dir_rows»
         → (cond t (only 9 w) (only 0 (drain plan g (v .losers) (world (w .dev) (installed (w .state) v)))) ≡ only 0 (drain plan g (v .losers) (world (w .dev) (installed (w .state) v))))
-        × (length (v .dirs) ≤ w .state .chosen .«dir_rows») × (v .counter + length (v .losers) ≤ 2 ^ 63)
+        × (length (v .dirs) ≤ w .state .chosen .«dir_rows») × (v .counter + length (v .losers) ≤ lastCounter)
     nine true f q h = absurd (omega arith)
     nine false f q h = (refl, h, ltb-false _ _ f)
 
-    eight : (t : Bool) → ltb (w .state .chosen .«dir_rows») (length (v .dirs)) ≡ t → _≡_ {A = ℕ} 0 (cond t 8 (cond (ltb (2 ^ 63) (v .counter + length (v .losers))) 9 0))
-        → (cond t (only 8 w) (cond (ltb (2 ^ 63) (v .counter + length (v .losers))) (only 9 w) (only 0 (drain plan g (v .losers) (world (w .dev) (installed (w .state) v))))) ≡ only 0 (drain plan g (v .losers) (world (w .dev) (installed (w .state) v))))
-        × (length (v .dirs) ≤ w .state .chosen .«dir_rows») × (v .counter + length (v .losers) ≤ 2 ^ 63)
+    eight : (t : Bool) → ltb (w .state .chosen .«dir_rows») (length (v .dirs)) ≡ t → _≡_ {A = ℕ} 0 (cond t 8 (cond (ltb lastCounter (v .counter + length (v .losers))) 9 0))
+        → (cond t (only 8 w) (cond (ltb lastCounter (v .counter + length (v .losers))) (only 9 w) (only 0 (drain plan g (v .losers) (world (w .dev) (installed (w .state) v))))) ≡ only 0 (drain plan g (v .losers) (world (w .dev) (installed (w .state) v))))
+        × (length (v .dirs) ≤ w .state .chosen .«dir_rows») × (v .counter + length (v .losers) ≤ lastCounter)
     eight true f q = absurd (omega arith)
-    eight false f q = nine (ltb (2 ^ 63) (v .counter + length (v .losers))) refl q (ltb-false _ _ f)
+    eight false f q = nine (ltb lastCounter (v .counter + length (v .losers))) refl q (ltb-false _ _ f)
 
 -- 9 is the same, whether the counter is cut or not.
 refusal-cut : (cap : ℕ) (ds : List (List ℕ)) (hs : List Head) (rs : List Row) (es : List (List ℕ)) (c k : ℕ)
@@ -219,7 +220,7 @@ module _ (plan : List ℕ) (g : Geometry) (k : ℕ) (l : Lent) (R : Ready g l) w
             names-same = ap (λ (t : Three). t .names) (taken .rows)
 
             done-is : (settle plan g v (moved (r .place) (viewW l)) ≡ only 0 (drain plan g (v .losers) (world (moved (r .place) (viewW l) .dev) (installed (viewW l .state) v))))
-                × (length (v .dirs) ≤ b .pool .chosen .«dir_rows») × (v .counter + length (v .losers) ≤ 2 ^ 63)
+                × (length (v .dirs) ≤ b .pool .chosen .«dir_rows») × (v .counter + length (v .losers) ≤ lastCounter)
             unfolding viewW view
             done-is = accepted-settles plan g v (moved (r .place) (viewW l)) (sym zero ∙ out-is)
 

@@ -6,15 +6,16 @@ use mathlib.Core.Path.{_≡_, refl, sym, ap, _∙_, subst}
 use mathlib.Core.List.{List, [], _∷_}
 use lib.ListN.{length, take, drop, getD, drop-of-length-le}
 use lib.Seq.{drop-cons, getD-take, length-take-le}
+use Rattle.limits.specs.Limits.{lastCounter}
 use Rattle.lists.specs.Distinct.{In}
 use Rattle.device.specs.declared.Geometry.{Geometry}
-use Rattle.rows.specs.Laws.{length-rows}
+use Rattle.rows.proofs.InBuffers.{length-rows}
 use Rattle.table.specs.State.{view, queueOf}
 use Rattle.steps.specs.World.{World, Lent, viewW, flatW, Ready}
 use Rattle.steps.specs.Steps.{releaseM}
-use Rattle.steps.specs.Laws.{world-is, ready-fit, lent-stays}
+use Rattle.steps.proofs.Stays.{world-is, ready-fit, lent-stays}
 use Rattle.mount.specs.Mount.{drain, Due}
-use Rattle.mount.specs.Laws.{due-first, due-fit, due-next}
+use Rattle.mount.proofs.Stays.{due-first, due-fit, due-next}
 
 pub record Draining (plan : List ℕ) (g : Geometry) (ls : List ℕ) (w : World) (l : Lent) (i : ℕ) : Type 0 where
   pub ready : Ready g l
@@ -36,7 +37,7 @@ module _ (plan : List ℕ) (g : Geometry) (xs : List ℕ) (count : ℕ) (w : Wor
     due = subst (λ (r : List ℕ). Due r (viewW l)) next (D .due)
 
     -- the next loser may be released
-    pub draining-first : Ready g l × ((x < l .bufs .pool .held) × (In x (queueOf (l .bufs .pool)) → ⊥) × (l .bufs .pool .counter < 2 ^ 63))
+    pub draining-first : Ready g l × ((x < l .bufs .pool .held) × (In x (queueOf (l .bufs .pool)) → ⊥) × (l .bufs .pool .counter < lastCounter))
     unfolding viewW view
     draining-first =
         let f = due-first plan g x (drop (i + 1) (take count xs)) (viewW l) due in

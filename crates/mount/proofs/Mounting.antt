@@ -8,21 +8,22 @@ use lib.Dec.{eqb}
 use lib.ListN.{length, replicate, length-replicate}
 use lib.Seq.{sets, sets-eq, drop-length}
 use borrow.Author.Tests.{eq-eqb, ne-eqb}
+use Rattle.limits.specs.Limits.{maxPath, rowWidth, dirWidth}
 use Rattle.lists.specs.Blocks.{pad}
 use Rattle.device.specs.declared.Geometry.{Geometry}
 use Rattle.device.specs.Device.{Dev, Shape}
 use Rattle.rows.specs.Rows.{rowsOf, flatNums, flatNames}
-use Rattle.rows.specs.Laws.{flat-zero}
+use Rattle.rows.proofs.InBuffers.{flat-zero}
 use Rattle.dirs.specs.Rows.{flatDirs}
-use Rattle.dirs.specs.RowLaws.{flat-none}
+use Rattle.dirs.proofs.InBuffer.{flat-none}
 use Rattle.table.specs.declared.Chosen.{Chosen}
 use Rattle.table.specs.declared.Pool.{Pool}
 use Rattle.table.specs.State.{State, Bufs, bufs, poolOf, flat}
 use Rattle.steps.specs.World.{World, world, Lent, lent, viewW, flatW, Ready}
-use Rattle.steps.specs.Laws.{world-is}
+use Rattle.steps.proofs.Stays.{world-is}
 use Rattle.steps.specs.Outcome.{Outcome, only, flatO, None}
 use Rattle.mount.specs.Mount.{adoptM, emptyState, mountM, zeroPool, zeroBufs, mounted}
-use Rattle.mount.specs.Laws.{adopt-refused, empty-fit}
+use Rattle.mount.proofs.Stays.{adopt-refused, empty-fit}
 
 mounted-zero : (c : Outcome None World) → c .out ≡ 0 → mounted c ≡ flatO c
 unfolding mounted flatO
@@ -32,11 +33,11 @@ mounted-not : (c : Outcome None World) → (c .out ≡ 0 → ⊥) → mounted c 
 unfolding mounted
 mounted-not c h = rw (ne-eqb (c .out) 0 h)
 
-nums-none : (cap : ℕ) → flatNums cap [] ≡ replicate (cap * 4) 0
+nums-none : (cap : ℕ) → flatNums cap [] ≡ replicate (cap * rowWidth) 0
 unfolding rowsOf
 nums-none cap = flat-zero cap .nums
 
-names-none : (cap : ℕ) → flatNames cap [] ≡ replicate (cap * 480) 0
+names-none : (cap : ℕ) → flatNames cap [] ≡ replicate (cap * maxPath) 0
 unfolding rowsOf
 names-none cap = flat-zero cap .names
 
@@ -56,7 +57,7 @@ empty-is h = refl
 
 module _ (plan : List ℕ) (g : Geometry) (h : Chosen) (k : ℕ) (d : Dev) (s : Shape g (d .bytes) (d .phys)) (few : h .rows ≤ 64) (dirs-few : h .«dir_rows» ≤ 256)
     (q : Pool) (l n b : List ℕ) (qe : q ≡ poolOf (emptyState h))
-    (le : l ≡ replicate (h .rows * 4) 0) (ne : n ≡ replicate (h .rows * 480) 0) (be : b ≡ replicate (h .«dir_rows» * 482) 0) where
+    (le : l ≡ replicate (h .rows * rowWidth) 0) (ne : n ≡ replicate (h .rows * maxPath) 0) (be : b ≡ replicate (h .«dir_rows» * dirWidth) 0) where
   abbrev start : Lent
   start = lent d (bufs q l n b)
 

@@ -4,11 +4,12 @@ use native.Mathlib.Omega.{arith}
 use mathlib.Core.List.{List}
 use lib.Dec.{ltb}
 use lib.ListN.{length}
+use Rattle.limits.specs.Limits.{lastCounter}
 use Rattle.device.specs.declared.Geometry.{Geometry}
 use Rattle.device.specs.Device.{Dev}
 use Rattle.table.specs.declared.Chosen.{Chosen}
 use Rattle.steps.specs.World.{World, world}
-use Rattle.steps.specs.Numbers.{either}
+use Rattle.steps.proofs.Numbers.{either}
 use Rattle.steps.specs.Outcome.{Out}
 use Rattle.survey.specs.Heads.{readsM}
 use Rattle.survey.specs.Survey.{Survey, scan}
@@ -19,7 +20,7 @@ module _ (plan : List ℕ) (g : Geometry) where
   unfolding settle
   settle-number v w =
       either Out (ltb (w .state .chosen .«dir_rows») (length (v .dirs))) (omega arith)
-      (either Out (ltb (2 ^ 63) (v .counter + length (v .losers))) (omega arith) (omega arith))
+      (either Out (ltb lastCounter (v .counter + length (v .losers))) (omega arith) (omega arith))
 
   pub adopt-number : (k : ℕ) (w : World) → Out (adoptM plan g k w)
   unfolding adoptM afterReads

@@ -4,6 +4,7 @@ use mathlib.Core.Bool.{Bool, true, false, cond, _||_}
 use mathlib.Core.List.{List, [], _∷_, _++_}
 use lib.Dec.{ltb, eqb}
 use lib.ListN.{length, replicate}
+use Rattle.limits.specs.Limits.{maxPath, rowWidth, dirWidth, lastCounter}
 use Rattle.lists.specs.Distinct.{In, Distinct}
 use Rattle.device.specs.declared.Place.{Place}
 use Rattle.device.specs.declared.Geometry.{Geometry}
@@ -35,7 +36,7 @@ pub record Due (ls : List ℕ) (w : World) : Type 0 where
   pub once : Distinct ls
   pub inside : (i : ℕ) → In i ls → i < length (w .state .rows)
   pub unqueued : (i : ℕ) → In i ls → In i (w .state .queue) → ⊥
-  pub counted : w .state .counter + length ls ≤ 2 ^ 63
+  pub counted : w .state .counter + length ls ≤ lastCounter
 
 -- The place has moved by the reads made; the device is unchanged.
 abbrev pub moved : Place → World → World
@@ -45,7 +46,7 @@ moved p w = world (dev (w .dev .bytes) (w .dev .phys) p) (w .state)
 unfoldable pub settle : List ℕ → Geometry → Survey → World → Outcome None World
 settle plan g v w =
     cond (ltb (w .state .chosen .«dir_rows») (length (v .dirs))) (only 8 w)
-    (cond (ltb (2 ^ 63) (v .counter + length (v .losers))) (only 9 w)
+    (cond (ltb lastCounter (v .counter + length (v .losers))) (only 9 w)
     (only 0 (drain plan g (v .losers) (world (w .dev) (installed (w .state) v)))))
 
 -- 10 from a header read, before 8 and 9.
@@ -77,7 +78,7 @@ abbrev pub zeroPool : Pool
 zeroPool = record { chosen = record { rows = 0; «dir_rows» = 0 }; held = 0; dirs = 0; counter = 0; free = 0; queue = replicate 64 0 }
 
 abbrev pub zeroBufs : Chosen → Bufs
-zeroBufs h = bufs zeroPool (replicate (h .rows * 4) 0) (replicate (h .rows * 480) 0) (replicate (h .«dir_rows» * 482) 0)
+zeroBufs h = bufs zeroPool (replicate (h .rows * rowWidth) 0) (replicate (h .rows * maxPath) 0) (replicate (h .«dir_rows» * dirWidth) 0)
 
 -- A mount's number with the lent buffers.
 unfoldable pub mounted : Outcome None World → Outcome None Lent

@@ -9,6 +9,7 @@ use table::Pool;
 ghost use mathlib.Core.Path.{_≡_};
 ghost use Prim.Native.Nat.{_*_, _≤_, max};
 ghost use lib.ListN.{length, take};
+ghost use Rattle.limits.specs.Limits.{maxPath, rowWidth, dirWidth};
 ghost use Rattle.device.specs.Device.{dev, Shape};
 ghost use Rattle.table.specs.State.{bufs, poolOf};
 ghost use Rattle.steps.specs.World.{lent, viewW, flatW, Ready, before, after};
@@ -201,9 +202,9 @@ pub fn mount_rows(
 ) -> Adopted
     requires { ⌜ Shape geometry (now bytes) (now phys) × (chosen .rows ≤ 64) × (chosen .«dir_rows» ≤ 256) ⌝ }
     requires { ⌜
-        (length (now nums) ≡ chosen .rows * 4)
-        × (length (now names) ≡ chosen .rows * 480)
-        × (length (now dirs) ≡ chosen .«dir_rows» * 482) ⌝ }
+        (length (now nums) ≡ chosen .rows * rowWidth)
+        × (length (now names) ≡ chosen .rows * maxPath)
+        × (length (now dirs) ≡ chosen .«dir_rows» * dirWidth) ⌝ }
     ensures { λ r. ⌜
         only (r .out) (after bytes phys (r .place) nums names dirs (r .pool))
         ≡ mounted (mountM (now (plan .entry)) geometry chosen k (dev (now (bytes .entry)) (now (phys .entry)) place)) ⌝ }

@@ -9,14 +9,14 @@ use lib.Dec.{eqb}
 use lib.ListN.{length, take, replicate, length-replicate, replicate-append-replicate}
 use lib.Seq.{take-at}
 use Rattle.le.specs.Le.{le}
-use Rattle.le.specs.Fields.{length-le}
+use Rattle.le.proofs.Fields.{length-le}
 use Rattle.device.specs.declared.Geometry.{Geometry}
 use Rattle.steps.specs.World.{Lent}
 use Rattle.reader.specs.declared.Op.{Op}
 use Rattle.reader.specs.declared.Form.{Form}
 use Rattle.reader.specs.Format.{part, formOf}
 use Rattle.writer.specs.Writer.{Shown, pours}
-use Rattle.writer.specs.Laws.{after-pours}
+use Rattle.writer.proofs.InParts.{after-pours}
 use Rattle.calls_gate.specs.declared.Call.{Call}
 use Rattle.calls_gate.specs.declared.Call.the-variants.{Mount, Adopt, OpenWrite, OpenRead, ReadAt, WriteAt, SetLen, FileLen, Sync, Metadata}
 use Rattle.calls_gate.specs.declared.Reply.{Reply}

@@ -12,7 +12,7 @@ ghost use Prim.Native.Nat.{_+_, _^_, _≤_, _<_};
 ghost use lib.ListN.{length, replicate};
 ghost use Rattle.steps.specs.World.{before, after};
 ghost use Rattle.reader.specs.Format.{lastCode, part};
-ghost use Rattle.reader.specs.Laws.{Held};
+ghost use Rattle.reader.specs.Reading.{Held};
 ghost use Rattle.writer.specs.Writer.{shown, pours};
 ghost use Rattle.calls_gate.specs.Answers.{numberOf};
 ghost use Rattle.calls_gate.specs.Replies.{came};

@@ -13,7 +13,7 @@ use Rattle.lists.specs.Sort.{insert, sort, isLess}
 use Rattle.path.specs.Path.{pathOrder}
 use Rattle.order.specs.Spans.{spelled, AllInside, before}
 use Rattle.order.specs.Risen.{Risen, Levels, place, place-is, place-few, risen-up, risen-sort, insert-place}
-use Rattle.order.specs.Laws.{before-levels, length-sorted, inside-get, inside-drop, inside-more, inside-sort}
+use Rattle.order.specs.InOrder.{before-levels, length-sorted, inside-get, inside-drop, inside-more, inside-sort}
 
 -- ---- one comparison
 

@@ -5,13 +5,14 @@ use mathlib.Core.Path.{_≡_, refl, sym, ap, ap₂, _∙_}
 use mathlib.Core.Bool.{true}
 use mathlib.Core.List.{List, [], _∷_, _++_, map}
 use lib.ListN.{length, length-map}
+use Rattle.limits.specs.Limits.{dirWidth}
 use Rattle.lists.specs.Blocks.{cat}
 use Rattle.lists.specs.Runs.{range, tab}
 use Rattle.lists.specs.Sort.{sort}
 use Rattle.dirs.specs.Rows.{dirAt, dirsOf}
-use Rattle.dirs.specs.RowLaws.{length-dirs}
+use Rattle.dirs.proofs.InBuffer.{length-dirs}
 use Rattle.order.specs.Spans.{spelled, before, inOrder, dirSpan, dirSpans, AllInside}
-use Rattle.order.specs.Laws.{length-sorted, spelled-sort, inside-sort}
+use Rattle.order.specs.InOrder.{length-sorted, spelled-sort, inside-sort}
 use Rattle.order.specs.Picks.{picks-inside, dir-spans, dir-inside, dir-spelled, row-spells}
 
 pub cat-map : {A B : Type 0} (f : A → B) (g : B → List ℕ) (h : A → List ℕ) → ((x : A) → g (f x) ≡ h x) → (xs : List A)
@@ -20,7 +21,7 @@ unfolding cat
 cat-map f g h e [] = refl
 cat-map f g h e (x ∷ xs) = ap₂ (λ (p q : List ℕ). p ++ q) (e x) (cat-map f g h e xs)
 
-module _ (b : List ℕ) (m : ℕ) (h : m * 482 ≤ length b) where
+module _ (b : List ℕ) (m : ℕ) (h : m * dirWidth ≤ length b) where
   abbrev ds : List (List ℕ)
   ds = dirsOf b m
 

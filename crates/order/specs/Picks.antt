@@ -9,12 +9,13 @@ use lib.ListN.{length, getD, set, take, drop, length-set, List·getD-eq-default}
 use lib.Dec.{ltb}
 use lib.Seq.{sets}
 use borrow.Author.Tests.{ltb-true, ltb-false}
+use Rattle.limits.specs.Limits.{maxPath, dirWidth}
 use Rattle.lists.specs.Runs.{range, range-more, range-end, getD-tab}
 use Rattle.lists.specs.Sort.{All, keep, keep-yes, keep-no, keep-all, all-keep, all-range}
 use Rattle.rows.specs.Rows.{Row, none, at, isBound, pathOf, rowsOf, Flat}
-use Rattle.rows.specs.Laws.{length-rows, name-part}
+use Rattle.rows.proofs.InBuffers.{length-rows, name-part}
 use Rattle.dirs.specs.Rows.{dirAt, dirsOf}
-use Rattle.dirs.specs.RowLaws.{length-dirs, dir-short, dir-part}
+use Rattle.dirs.proofs.InBuffer.{length-dirs, dir-short, dir-part}
 use Rattle.order.specs.Spans.{span, spelled, Inside, AllInside, fileSpan, dirSpan, slotOf, dirNumber, fileSpans, dirSpans}
 
 -- ---- a loop that picks
@@ -133,17 +134,17 @@ module _ (cap n : ℕ) (l s : List ℕ) (F : Flat cap n l s) where
   -- the part of a slot row lies in the names,
   pub file-inside : (i : ℕ) → i < n → Inside s (fileSpan rs i)
   unfolding fileSpan
-  file-inside i h = part-inside s (i * 480) (length (pathOf (at rs i))) (omega (arith, F .short i)) (name-part cap n l s F i h _ refl .0)
+  file-inside i h = part-inside s (i * maxPath) (length (pathOf (at rs i))) (omega (arith, F .short i)) (name-part cap n l s F i h _ refl .0)
 
   -- and spells its path
   pub file-spelled : (i : ℕ) → spelled s (fileSpan rs i) ≡ pathOf (at rs i)
   unfolding fileSpan pathOf
-  file-spelled i = part-spelled s (i * 480) (length (pathOf (at rs i))) (omega (arith, F .short i)) ∙ go (ltb i n) refl
+  file-spelled i = part-spelled s (i * maxPath) (length (pathOf (at rs i))) (omega (arith, F .short i)) ∙ go (ltb i n) refl
     where
-      go : (t : Bool) → ltb i n ≡ t → take (length (pathOf (at rs i))) (drop (i * 480) s) ≡ pathOf (at rs i)
+      go : (t : Bool) → ltb i n ≡ t → take (length (pathOf (at rs i))) (drop (i * maxPath) s) ≡ pathOf (at rs i)
       go true e =
           let h : i < n = ltb-true i n e in
-          let z : i * 480 + length (pathOf (at rs i)) - i * 480 ≡ length (pathOf (at rs i)) = omega arith in
+          let z : i * maxPath + length (pathOf (at rs i)) - i * maxPath ≡ length (pathOf (at rs i)) = omega arith in
           rw z at (name-part cap n l s F i h _ refl .1)
       go false e = let g : at rs i ≡ none = List·getD-eq-default rs none (omega (arith, ltb-false i n e, length-rows l s n)) in rw g
 
@@ -152,7 +153,7 @@ module _ (cap n : ℕ) (l s : List ℕ) (F : Flat cap n l s) where
   unfolding fileSpan
   file-slot i = omega (arith, F .short i)
 
-module _ (m : ℕ) (b : List ℕ) (h : m * 482 ≤ length b) where
+module _ (m : ℕ) (b : List ℕ) (h : m * dirWidth ≤ length b) where
   abbrev ds : List (List ℕ)
   ds = dirsOf b m
 
@@ -160,25 +161,25 @@ module _ (m : ℕ) (b : List ℕ) (h : m * 482 ≤ length b) where
   unfolding dirsOf
   row-spells j k = let z : 0 + j ≡ j = omega arith in getD-tab (dirAt b) 0 m j [] k ∙ ap (dirAt b) z
 
-  pub row-short : (j : ℕ) → length (getD ds j []) ≤ 480
+  pub row-short : (j : ℕ) → length (getD ds j []) ≤ maxPath
   row-short j = go (ltb j m) refl
     where
-      go : (t : Bool) → ltb j m ≡ t → length (getD ds j []) ≤ 480
+      go : (t : Bool) → ltb j m ≡ t → length (getD ds j []) ≤ maxPath
       go true e = rw (row-spells j (ltb-true j m e)) (dir-short b j)
       go false e = rw (List·getD-eq-default ds [] {n = j} (omega (arith, ltb-false j m e, length-dirs b m))) (omega arith)
 
   pub dir-inside : (j : ℕ) → j < m → Inside b (dirSpan ds j)
   unfolding dirSpan
-  dir-inside j k = part-inside b (j * 482 + 2) (length (getD ds j [])) (omega (arith, row-short j)) (omega (arith, row-short j))
+  dir-inside j k = part-inside b (j * dirWidth + 2) (length (getD ds j [])) (omega (arith, row-short j)) (omega (arith, row-short j))
 
   pub dir-spelled : (j : ℕ) → spelled b (dirSpan ds j) ≡ getD ds j []
   unfolding dirSpan
-  dir-spelled j = part-spelled b (j * 482 + 2) (length (getD ds j [])) (omega (arith, row-short j)) ∙ go (ltb j m) refl
+  dir-spelled j = part-spelled b (j * dirWidth + 2) (length (getD ds j [])) (omega (arith, row-short j)) ∙ go (ltb j m) refl
     where
-      go : (t : Bool) → ltb j m ≡ t → take (length (getD ds j [])) (drop (j * 482 + 2) b) ≡ getD ds j []
+      go : (t : Bool) → ltb j m ≡ t → take (length (getD ds j [])) (drop (j * dirWidth + 2) b) ≡ getD ds j []
       go true e =
           let r : getD ds j [] ≡ dirAt b j = row-spells j (ltb-true j m e) in
-          let z : j * 482 + 2 + length (dirAt b j) - (j * 482 + 2) ≡ length (dirAt b j) = omega arith in
+          let z : j * dirWidth + 2 + length (dirAt b j) - (j * dirWidth + 2) ≡ length (dirAt b j) = omega arith in
           rw r (rw z at (dir-part b j _ refl))
       go false e = rw (List·getD-eq-default ds [] {n = j} (omega (arith, ltb-false j m e, length-dirs b m)))
 

@@ -4,6 +4,7 @@ use Prim.Native.Nat.{ℕ, _+_, _*_, _/_, _%_, _≤_}
 use mathlib.Core.Bool.{Bool}
 use mathlib.Core.List.{List, [], map}
 use lib.ListN.{length, getD, take, drop}
+use Rattle.limits.specs.Limits.{maxPath, dirWidth}
 use Rattle.lists.specs.Runs.{range}
 use Rattle.lists.specs.Sort.{All, keep, sort, by}
 use Rattle.path.specs.Path.{pathOrder}
@@ -43,19 +44,19 @@ before b = by pathOrder (spelled b)
 
 -- The path of slot row i, in the names.
 unfoldable pub fileSpan : List Row → ℕ → ℕ
-fileSpan rs i = span (i * 480) (length (pathOf (at rs i)))
+fileSpan rs i = span (i * maxPath) (length (pathOf (at rs i)))
 
 -- The spelling of directory row j, in the directory rows.
 unfoldable pub dirSpan : List (List ℕ) → ℕ → ℕ
-dirSpan ds j = span (j * 482 + 2) (length (getD ds j []))
+dirSpan ds j = span (j * dirWidth + 2) (length (getD ds j []))
 
 -- The slot whose path the part x of the names is.
 abbrev pub slotOf : ℕ → ℕ
-slotOf x = x / 512 / 480
+slotOf x = x / 512 / maxPath
 
 -- The row whose spelling the part x of the directory rows is.
 abbrev pub dirNumber : ℕ → ℕ
-dirNumber x = x / 512 / 482
+dirNumber x = x / 512 / dirWidth
 
 -- All files, by slot.
 unfoldable pub fileSpans : List Row → List ℕ

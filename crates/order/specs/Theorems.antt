@@ -5,6 +5,7 @@ use mathlib.Core.Path.{_≡_, sym}
 use mathlib.Core.Bool.{Bool, true}
 use mathlib.Core.List.{List, map}
 use lib.ListN.{length}
+use Rattle.limits.specs.Limits.{dirWidth}
 use Rattle.lists.specs.Runs.{range}
 use Rattle.lists.specs.Sort.{keep, sort, by, Strict, OneWay, by-strict, by-total, apart-range}
 use Rattle.lists.specs.Sorted.{Ordered, ordered-sort, count-sort}
@@ -13,7 +14,7 @@ use Rattle.path.specs.Theorems.{same-path, order-ranks, order-equal}
 use Rattle.rows.specs.Rows.{rowsOf, Flat}
 use Rattle.dirs.specs.Rows.{dirsOf}
 use Rattle.order.specs.Spans.{pathBefore, inOrder, before, fileSpan, dirSpan, fileBefore, dirBefore}
-use Rattle.order.specs.Laws.{map-sort}
+use Rattle.order.specs.InOrder.{map-sort}
 use Rattle.order.specs.Picks.{file-spelled, dir-spelled}
 
 -- The order of paths is strict, and of two that are not equal one comes before the other.
@@ -50,7 +51,7 @@ files-sorted cap n l s F is =
     sym (map-sort (fileSpan rs) (fileBefore rs) (before s) (λ x y. rw (file-spelled cap n l s F x, file-spelled cap n l s F y)) is)
 
 -- and those of directory rows too.
-pub dirs-sorted : (m : ℕ) (b : List ℕ) → m * 482 ≤ length b → (js : List ℕ)
+pub dirs-sorted : (m : ℕ) (b : List ℕ) → m * dirWidth ≤ length b → (js : List ℕ)
     → sort (before b) (map (dirSpan (dirsOf b m)) js) ≡ map (dirSpan (dirsOf b m)) (sort (dirBefore (dirsOf b m)) js)
 unfolding before dirBefore
 dirs-sorted m b h js =

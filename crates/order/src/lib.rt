@@ -1,11 +1,14 @@
 // The order in which 01 lists and dumps paths: byte order of normal spelling. What is put in order are parts of a buffer that spell paths,
 // rows of slots or of directories alike; the paths stay where they are. The Rust has no such order: its listings are sets. Nothing is
 // refused.
+use limits::DIR_WIDTH;
+use limits::MAX_PATH;
 ghost use mathlib.Core.Path.{_≡_};
 ghost use mathlib.Core.List.{_∷_, _++_};
 ghost use Prim.Native.Nat.{_+_, _*_, _^_, _≤_, _<_};
 ghost use lib.ListN.{length, getD, take, drop};
 ghost use lib.Seq.{sets};
+ghost use Rattle.limits.specs.Limits.{dirWidth};
 ghost use Rattle.lists.specs.Sort.{sort};
 ghost use Rattle.rows.specs.Rows.{rowsOf, Flat};
 ghost use Rattle.dirs.specs.Rows.{dirsOf};
@@ -94,30 +97,30 @@ pub fn file_span(nums: &[u64], names: &[u8], cap: usize, n: usize, i: usize) -> 
     ensures { λ r. ⌜ r ≡ fileSpan (rowsOf (now (nums .entry)) (now (names .entry)) n) i ⌝ }
 {
     let len = rows::path_len(nums, names, cap, n, i);
-    span(i * 480, len)
+    span(i * MAX_PATH, len)
 }
 
 // The spelling of directory row j, in the directory rows.
 pub fn dir_span(dirs: &[u8], m: usize, j: usize) -> u32
-    requires { ⌜ (m * 482 ≤ length (now dirs)) × (j < m) × (m ≤ 256) ⌝ }
+    requires { ⌜ (m * dirWidth ≤ length (now dirs)) × (j < m) × (m ≤ 256) ⌝ }
     ensures { λ r. ⌜ r ≡ dirSpan (dirsOf (now (dirs .entry)) m) j ⌝ }
 {
     let len = dirs::dir_len(dirs, j);
-    span(j * 482 + 2, len)
+    span(j * DIR_WIDTH + 2, len)
 }
 
 // The slot whose path is the part x.
 pub fn slot_of(x: u32) -> usize
     ensures { λ r. ⌜ r ≡ slotOf x ⌝ }
 {
-    (x / 512 / 480) as usize
+    (x / 512) as usize / MAX_PATH
 }
 
 // The directory row whose spelling is the part x.
 pub fn dir_number(x: u32) -> usize
     ensures { λ r. ⌜ r ≡ dirNumber x ⌝ }
 {
-    (x / 512 / 482) as usize
+    (x / 512) as usize / DIR_WIDTH
 }
 
 // Writes the paths of all files, by slot, to the front of spans, and says how many they are.
@@ -142,7 +145,7 @@ pub fn all_files(nums: &[u64], names: &[u8], cap: usize, n: usize, spans: &mut [
 
 // Writes the spellings of all directories, by row, to the front of spans: there are m.
 pub fn all_dirs(dirs: &[u8], m: usize, spans: &mut [u32])
-    requires { ⌜ (m * 482 ≤ length (now dirs)) × (m ≤ 256) × (m ≤ length (now spans)) ⌝ }
+    requires { ⌜ (m * dirWidth ≤ length (now dirs)) × (m ≤ 256) × (m ≤ length (now spans)) ⌝ }
     ensures { λ _. ⌜ now (spans .exit) ≡ sets (now (spans .entry)) 0 (dirSpans (dirsOf (now (dirs .entry)) m)) ⌝ }
 {
     let mut j = 0;

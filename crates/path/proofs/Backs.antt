@@ -8,7 +8,7 @@ use lib.ListN.{length, getD, take, drop, length-append, take-append-drop}
 use lib.Seq.{drop-cons, take-suc, take-add, take-all, take-take, length-take-le}
 use native.Mathlib.Omega.{arith}
 use borrow.Author.Tests.{eq-eqb, ne-eqb, lt-ltb, le-ltb}
-use Rattle.le.specs.Parts.{part-append}
+use Rattle.le.proofs.Parts.{part-append}
 use Rattle.lists.specs.Same.{same, sameBytes, same-snoc, same-length}
 use Rattle.path.specs.Path.{idle, names, split, components, samePath}
 use Rattle.path.specs.Walk.{rest, Free, Starts, ended, Last}

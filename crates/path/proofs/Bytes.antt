@@ -10,7 +10,7 @@ use native.Mathlib.Omega.{arith}
 use native.Mathlib.Numerals.{add-one}
 use borrow.Author.Tests.{eq-eqb, ne-eqb}
 use Rattle.le.specs.Le.{le, unle, Bytes}
-use Rattle.le.specs.Fields.{field-back}
+use Rattle.le.proofs.Fields.{field-back}
 use Rattle.lists.specs.Same.{same, sameBytes, same-bytes-refl, same-bytes-other}
 
 -- what both end with does not matter

@@ -15,7 +15,7 @@ use Rattle.path.specs.Path.{components, samePath, init, isRoot, hasParen
 use Rattle.path.specs.Walk.{Last, UpTo, parentLaid, upFrom, Above}
 use Rattle.path.specs.Parts.{AllNamed, Formed, formed, no-root}
 use Rattle.path.specs.Theorems.{no-components}
-use Rattle.path.specs.Ancestors.{fronts-nil, fronts-some}
+use Rattle.path.proofs.Ancestors.{fronts-nil, fronts-some}
 use Rattle.path.proofs.Walks.{root-at}
 use Rattle.path.proofs.Backs.{components-none, back-slash, last-none, last-some}
 

@@ -9,7 +9,7 @@ use lib.Seq.{paste, paste-suc, set-split, take-length, length-take-le}
 use native.Mathlib.Omega.{arith}
 use native.Mathlib.Numerals.{add-one}
 use Rattle.le.specs.Le.{laid}
-use Rattle.le.specs.Parts.{laid-nothing, length-laid, laid-laid}
+use Rattle.le.proofs.Parts.{laid-nothing, length-laid, laid-laid}
 use Rattle.path.specs.Path.{slash, join, normal}
 use Rattle.path.specs.Walk.{left, Next}
 use Rattle.path.proofs.Walks.{next-none, next-some, root-at}

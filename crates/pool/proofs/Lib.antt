@@ -1,2 +1,6 @@
+-- Contents of proofs/, beside a folder for each function: what its proofs cite, and laws that crates above cite.
+
+-- What the walks use of the types of the record, of a call and of its reply.
 pub mod Parts
-pub mod Laws
+-- What the ways through the entry come to, and those of its helpers.
+pub mod Ways

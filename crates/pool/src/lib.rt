@@ -7,12 +7,14 @@ use calls_gate::Call;
 use calls_gate::Reply;
 use device::Geometry;
 use device::Place;
+use limits::ROW_WIDTH;
 use records::Slot;
 use table::Pool;
 ghost use mathlib.Core.Path.{_≡_};
 ghost use Prim.Native.Nat.{_*_, _≤_};
 ghost use mathlib.Core.Bool.{cond};
 ghost use lib.ListN.{length, take};
+ghost use Rattle.limits.specs.Limits.{rowWidth};
 ghost use Rattle.device.specs.Device.{dev};
 ghost use Rattle.table.specs.State.{bufs};
 ghost use Rattle.steps.specs.World.{lent};
@@ -79,15 +81,15 @@ fn on_front(
     second: &[u8],
     buf: &mut [u8],
 ) -> Reply
-    requires { ⌜ n * 4 ≤ length (now nums) ⌝ }
+    requires { ⌜ n * rowWidth ≤ length (now nums) ⌝ }
     ensures { λ r.
-        ⌜ replied r (now (bytes .exit)) (now (phys .exit)) (take (n * 4) (now (nums .exit))) (now (names .exit)) (now (dirs .exit))
+        ⌜ replied r (now (bytes .exit)) (now (phys .exit)) (take (n * rowWidth) (now (nums .exit))) (now (names .exit)) (now (dirs .exit))
         (now (buf .exit))
         ≡ callP (now (plan .entry)) geometry call (now (first .entry)) (now (second .entry)) (now (buf .entry))
         (lent (dev (now (bytes .entry)) (now (phys .entry)) place)
-        (bufs pool (take (n * 4) (now (nums .entry))) (now (names .entry)) (now (dirs .entry)))) ⌝ }
+        (bufs pool (take (n * rowWidth) (now (nums .entry))) (now (names .entry)) (now (dirs .entry)))) ⌝ }
 {
-    let k = n * 4;
+    let k = n * ROW_WIDTH;
     calls::make(
         bytes,
         phys,

@@ -10,25 +10,26 @@ use mathlib.Core.List.{List, [], _∷_, append-nil}
 use lib.Dec.{eqb, ltb}
 use lib.ListN.{length, getD, length-map, List·getD-eq-default}
 use borrow.Author.Tests.{ne-eqb, ltb-false, le-ltb}
+use Rattle.limits.specs.Limits.{lastCounter}
 use Rattle.lists.specs.Runs.{tab}
 use Rattle.device.specs.declared.Place.{Place}
 use Rattle.device.specs.declared.Geometry.{Geometry}
 use Rattle.device.specs.Device.{Dev, dev, Shape, turn, after, stops, given}
-use Rattle.device.specs.Laws.{look}
+use Rattle.device.specs.AnyDevice.{look}
 use Rattle.device.specs.Calls.{blockOf}
-use Rattle.device.specs.Keeps.{be-may}
-use Rattle.device.specs.Memory.{memory}
+use Rattle.device.proofs.CallByCall.{be-may}
+use Rattle.device.proofs.Memory.{memory}
 use Rattle.dirs.specs.Dirs.{Dirs}
 use Rattle.table.specs.State.{State}
 use Rattle.steps.specs.World.{World}
 use Rattle.steps.specs.Steps.{releaseM}
-use Rattle.steps.specs.Laws.{release-is}
+use Rattle.steps.proofs.Stays.{release-is}
 use Rattle.steps.specs.Outcome.{Outcome, None, only}
 use Rattle.survey.specs.Heads.{headOf, Reads, behind, looked, readsM}
 use Rattle.survey.specs.Survey.{Survey}
 use Rattle.survey.specs.Survey as S
 use Rattle.mount.specs.Mount.{begin, installed, drain, moved, settle, afterReads, tooMany, adoptM}
-use Rattle.mount.specs.Laws.{room-for}
+use Rattle.mount.proofs.Stays.{room-for}
 use Rattle.model.specs.Model.{Kit}
 use Rattle.model.specs.Model as M
 use Rattle.promises.specs.Demand3.{headerAt, Untouched, reading, surveyed, standing}
@@ -135,7 +136,7 @@ module _ (g : Geometry) (plan : List ℕ) (k : ℕ) (w : World) (s : Shape g (w 
   crowded = ltb (w .state .chosen .«dir_rows») (length (v .dirs))
 
   abbrev spent : Bool
-  spent = ltb (2 ^ 63) (v .counter + length (v .losers))
+  spent = ltb lastCounter (v .counter + length (v .losers))
 
   module _ (room : n + k ≤ length (w .dev .phys)) where
     pub reading-is : reading plan g k w
@@ -208,7 +209,7 @@ module _ (g : Geometry) (plan : List ℕ) (k : ℕ) (w : World) (s : Shape g (w 
         let x : crowded ≡ false =
         le-ltb (w .state .chosen .«dir_rows») (length (v .dirs)) (omega (arith, ap (λ (z : M.State K). length (z .dirs)) e, A .dirs-fit)) in
         let y : spent ≡ false =
-        le-ltb (2 ^ 63) (v .counter + length (v .losers))
+        le-ltb lastCounter (v .counter + length (v .losers))
         (omega (arith, ap (λ (z : M.State K). z .counter + length (z .losers)) e, A .gens-fit)) in
         settled room (not-many (omega arith) room) ∙ rw (x, y)
 
@@ -251,6 +252,6 @@ module _ (g : Geometry) (plan : List ℕ) (k : ℕ) (w : World) (s : Shape g (w 
                 let few = ltb-false (w .state .chosen .«dir_rows») (length (v .dirs)) (c .0) in
                 omega (arith, ap (λ (x : M.State K). length (x .dirs)) e, few);
             gens-fit =
-                let low = ltb-false (2 ^ 63) (v .counter + length (v .losers)) (c .1) in
+                let low = ltb-false lastCounter (v .counter + length (v .losers)) (c .1) in
                 omega (arith, ap (λ (x : M.State K). x .counter + length (x .losers)) e, low);
           }

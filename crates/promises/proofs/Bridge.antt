@@ -13,12 +13,12 @@ use Rattle.lists.specs.Same.{sameBytes}
 use Rattle.lists.specs.Distinct.{snoc-in}
 use Rattle.path.specs.Path.{samePath, normal, ancestors}
 use Rattle.path.specs.Theorems.{same-path-sym, normal-bytes}
-use Rattle.path.specs.Ancestors.{ancestor-normal}
+use Rattle.path.proofs.Ancestors.{ancestor-normal}
 use Rattle.device.specs.declared.Geometry.{Geometry}
 use Rattle.device.specs.Device.{Dev}
 use Rattle.rows.specs.Rows.{Row, unbound, bound, none, at, holds, find}
 use Rattle.dirs.specs.Dirs.{Normals, Dirs, hasPath, registered, joinedEach}
-use Rattle.dirs.specs.Laws.{ancestors-dirs, registered-dirs, one-by-one}
+use Rattle.dirs.proofs.Registering.{ancestors-dirs, registered-dirs, one-by-one}
 use Rattle.table.specs.State.{State}
 use Rattle.table.specs.Queue.{spent, queued}
 use Rattle.table.specs.Changes.{withRow}

@@ -6,10 +6,10 @@ use borrow.Author.Tests.{eq-eqb}
 use Rattle.device.specs.declared.Geometry.{Geometry}
 use Rattle.table.specs.State.{State, view, IsPool}
 use Rattle.steps.specs.World.{World, Lent, viewW, flatW, Fit}
-use Rattle.steps.specs.Laws.{world-is}
+use Rattle.steps.proofs.Stays.{world-is}
 use Rattle.steps.specs.Outcome.{Outcome, None, flatO}
 use Rattle.mount.specs.Mount.{mounted}
-use Rattle.mount.specs.Laws.{adopt-valid, mount-valid}
+use Rattle.mount.proofs.Stays.{adopt-valid, mount-valid}
 use Rattle.promises.specs.Demand3.{Trial, headers, emptyOne, emptyTwo, whole, firstPart, both, Rule, SameFiles}
 use Rattle.promises.specs.Buffers.{TheCodeObeys}
 use Rattle.promises.proofs.Theorem.{the-rule, split-is-one-mount}

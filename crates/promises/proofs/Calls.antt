@@ -9,29 +9,30 @@ use lib.Dec.{ltb, leb, lit≤}
 use lib.ListN.{length, getD}
 use lib.Seq.{getD-set-same}
 use borrow.Author.Tests.{eqb-true, ne-eqb, lt-ltb, le-ltb, le-leb, lt-leb}
+use Rattle.limits.specs.Limits.{maxPath, lastCounter}
 use Rattle.lists.specs.Same.{same}
 use Rattle.text.specs.Text.{leadOf, stepOf, walkOf, isText}
 use Rattle.path.specs.Path.{grow, cut, split, idle, names, opening, components, samePath}
 use Rattle.device.specs.declared.Geometry.{Geometry}
 use Rattle.device.specs.Device.{Dev, turn, stops, dataTruncateM}
-use Rattle.device.specs.Laws.{truncate}
-use Rattle.device.specs.Keeps.{acts}
-use Rattle.device.specs.Memory.{memory}
+use Rattle.device.specs.AnyDevice.{truncate}
+use Rattle.device.proofs.CallByCall.{acts}
+use Rattle.device.proofs.Memory.{memory}
 use Rattle.rows.specs.Rows.{file, bound, none, at, lenOf}
 use Rattle.dirs.specs.Dirs.{registered}
 use Rattle.table.specs.State.{State, view}
 use Rattle.table.specs.Queue.{spent, unqueued}
 use Rattle.table.specs.Changes.{withRow, withDirs}
-use Rattle.table.specs.Laws.{view-flat}
+use Rattle.table.specs.InBuffers.{view-flat}
 use Rattle.steps.specs.World.{World, world, viewW, flatW, Fit, Ready}
 use Rattle.steps.specs.Steps.{fineM}
-use Rattle.steps.specs.Laws.{ready-fit}
+use Rattle.steps.proofs.Stays.{ready-fit}
 use Rattle.steps.specs.Outcome.{Outcome, outcome, flatO}
 use Rattle.handles.specs.Handles.{isLive, Filling, filling, readPart, readAtM}
-use Rattle.handles.specs.Laws.{stays}
+use Rattle.handles.proofs.Stays.{stays}
 use Rattle.files.specs.Files.{isFile, roomFor, registers, binds, Handle, handle, noHandle}
 use Rattle.files.specs.Files.{created, createM, admitsNew, openNewM, openWriteM}
-use Rattle.files.specs.Laws.{first-held, open-write-fit}
+use Rattle.files.proofs.Stays.{first-held, open-write-fit}
 use Rattle.renames.specs.Rename.{frontM, renameM}
 use Rattle.calls_gate.specs.declared.Call.the-variants.{OpenWrite, ReadAt, Rename}
 use Rattle.calls_gate.specs.Table.{takesOf, textIf}
@@ -48,27 +49,27 @@ module _ (plan : List ℕ) (g : Geometry) (path : List ℕ) (keep : Bool) (w : W
   abbrev s : State
   s = w .state
 
-  too-long : 480 < length path → openWriteM plan g path keep w ≡ outcome 4 noHandle w
+  too-long : maxPath < length path → openWriteM plan g path keep w ≡ outcome 4 noHandle w
   unfolding openWriteM
-  too-long h = rw (lt-ltb 480 (length path) h)
+  too-long h = rw (lt-ltb maxPath (length path) h)
 
-  module _ (short : length path ≤ 480) (new : isFile path s ≡ false) (room : length (registered (s .dirs) path) ≤ s .chosen .«dir_rows»)
+  module _ (short : length path ≤ maxPath) (new : isFile path s ≡ false) (room : length (registered (s .dirs) path) ≤ s .chosen .«dir_rows»)
       (free : 0 < length (s .queue)) where
     opens-new : openWriteM plan g path keep w ≡ openNewM plan g path w
     unfolding openWriteM
-    opens-new = rw (le-ltb 480 (length path) short, new)
+    opens-new = rw (le-ltb maxPath (length path) short, new)
 
-    admits : admitsNew path s ≡ cond (ltb (2 ^ 63) (s .counter + 1)) 9 0
+    admits : admitsNew path s ≡ cond (ltb lastCounter (s .counter + 1)) 9 0
     unfolding admitsNew roomFor
     admits = rw (ne-eqb (length (s .queue)) 0 (λ e. omega arith), le-ltb (s .chosen .«dir_rows») (length (registered (s .dirs) path)) room)
 
-    none-left : s .counter ≡ 2 ^ 63 → openWriteM plan g path keep w ≡ outcome 9 noHandle w
+    none-left : s .counter ≡ lastCounter → openWriteM plan g path keep w ≡ outcome 9 noHandle w
     unfolding openNewM
     none-left e =
-        let a : admitsNew path s ≡ 9 = admits ∙ rw (lt-ltb (2 ^ 63) (s .counter + 1) (omega arith)) in
+        let a : admitsNew path s ≡ 9 = admits ∙ rw (lt-ltb lastCounter (s .counter + 1) (omega arith)) in
         opens-new ∙ rw a
 
-    module _ (f : Fit g w) (left : s .counter < 2 ^ 63) (calm : Untouched plan 1 (w .dev .place)) where
+    module _ (f : Fit g w) (left : s .counter < lastCounter) (calm : Untouched plan 1 (w .dev .place)) where
       abbrev i : ℕ
       i = getD (s .queue) 0 0
 
@@ -93,7 +94,7 @@ module _ (plan : List ℕ) (g : Geometry) (path : List ℕ) (keep : Bool) (w : W
       opens : openWriteM plan g path keep w ≡ outcome 0 (handle i (s .counter) 0) (world shorter (created path true s))
       unfolding openNewM createM
       opens =
-          let a : admitsNew path s ≡ 0 = admits ∙ rw (le-ltb (2 ^ 63) (s .counter + 1) (omega arith)) in
+          let a : admitsNew path s ≡ 0 = admits ∙ rw (le-ltb lastCounter (s .counter + 1) (omega arith)) in
           let z : shorter .place .last ≡ 0 = eqb-true (shorter .place .last) 0 done in
           opens-new ∙ rw (a, z)
 
@@ -113,10 +114,10 @@ module _ (plan : List ℕ) (g : Geometry) (w : World) where
     unfolding readAtM
     before h = let z : leb (lenOf (at (w .state .rows) i)) pos ≡ false = lt-leb (lenOf (at (w .state .rows) i)) pos h in rw (live, z)
 
-  equal-paths : (from to : List ℕ) → length to ≤ 480 → samePath from to ≡ true
+  equal-paths : (from to : List ℕ) → length to ≤ maxPath → samePath from to ≡ true
       → renameM plan g from to w ≡ outcome (cond (isFile from (w .state)) 0 5) tt w
   unfolding renameM frontM
-  equal-paths from to short same = let z : ltb 480 (length to) ≡ false = le-ltb 480 (length to) short in rw (z, same)
+  equal-paths from to short same = let z : ltb maxPath (length to) ≡ false = le-ltb maxPath (length to) short in rw (z, same)
 
 -- ---- the rows
 
@@ -146,9 +147,9 @@ module _ (c : Setting) where
     open-refused : (n : ℕ) → inner ≡ outcome n noHandle w → call ≡ unchanged c n
     open-refused n e = open-is ∙ ap (opened (c .buf)) (still n noHandle inner e)
 
-  module _ (path : List ℕ) (keep : Bool) (short : length path ≤ 480) (N : NewFile path (state c)) where
+  module _ (path : List ℕ) (keep : Bool) (short : length path ≤ maxPath) (N : NewFile path (state c)) where
     -- no generation is left
-    pub open-nine : 0 < length (state c .queue) → state c .counter ≡ 2 ^ 63 → call path keep (N .text) ≡ unchanged c 9
+    pub open-nine : 0 < length (state c .queue) → state c .counter ≡ lastCounter → call path keep (N .text) ≡ unchanged c 9
     unfolding viewW
     open-nine free e = open-refused path keep (N .text) 9 (none-left (c .plan) (c .geometry) path keep w short (N .new) (N .dirs) free e)
 
@@ -198,7 +199,7 @@ module _ (c : Setting) where
   unfolding takesOf textIf innerM
   rename-is from to t u = on-pool (c .plan) (c .geometry) Rename from to (c .buf) (c .lent) R refl t u
 
-  unmoved : (from to : List ℕ) → isText from ≡ true → isText to ≡ true → length to ≤ 480 → samePath from to ≡ true → Unmoved c from to
+  unmoved : (from to : List ℕ) → isText from ≡ true → isText to ≡ true → length to ≤ maxPath → samePath from to ≡ true → Unmoved c from to
   unfolding viewW
   unmoved from to t u short same =
       let e = rename-is from to t u in

@@ -7,19 +7,20 @@ use mathlib.Core.Bool.{true}
 use mathlib.Core.List.{List}
 use lib.ListN.{length}
 use borrow.Author.Tests.{eq-eqb, le-leb}
+use Rattle.limits.specs.Limits.{rowWidth}
 use Rattle.device.specs.declared.Place.{Place}
 use Rattle.device.specs.Device.{dev}
-use Rattle.device.specs.Shape.{shape-means}
+use Rattle.device.proofs.Shapes.{shape-means}
 use Rattle.records.specs.declared.Slot.{Slot}
 use Rattle.records.specs.Records.{numsOf, slotsOf}
-use Rattle.records.specs.Laws.{slots-nums, length-nums}
+use Rattle.records.specs.SameNumbers.{slots-nums, length-nums}
 use Rattle.table.specs.declared.Chosen.{Chosen}
 use Rattle.table.specs.State.{bufs}
 use Rattle.steps.specs.World.{World, Lent, lent, flatW}
-use Rattle.steps.specs.Laws.{world-is}
+use Rattle.steps.proofs.Stays.{world-is}
 use Rattle.steps.specs.Outcome.{Outcome, None, only, flatO}
 use Rattle.mount.specs.Mount.{mounted, mountM, adoptM}
-use Rattle.mount.specs.Laws.{mount-valid}
+use Rattle.mount.proofs.Stays.{mount-valid}
 use Rattle.calls_gate.specs.declared.Call.the-variants.{Adopt}
 use Rattle.calls_gate.specs.Table.{takesOf, slotRows, dirRows, rowsB, textIf}
 use Rattle.calls_gate.specs.Replies.{Came, came}
@@ -97,7 +98,7 @@ module _ (t : Trial) (G : Given t) (few : t .chosen .«dir_rows» ≤ 256) where
   module _ (r : Lending t) where
     slot-count : slotRows (numsOf (r .rows)) ≡ t .chosen .rows
     slot-count =
-        let n : length (numsOf (r .rows)) ≡ length (r .rows) * 4 = length-nums (r .rows) in
+        let n : length (numsOf (r .rows)) ≡ length (r .rows) * rowWidth = length-nums (r .rows) in
         let c = r .slot-rows in
         omega (arith, n, c)
 
@@ -116,12 +117,12 @@ module _ (t : Trial) (G : Given t) (few : t .chosen .«dir_rows» ≤ 256) where
     rows-fine : rowsB (numsOf (r .rows)) (r .names) (r .dirs) ≡ true
     unfolding rowsB
     rows-fine =
-        let n : length (numsOf (r .rows)) ≡ length (r .rows) * 4 = length-nums (r .rows) in
+        let n : length (numsOf (r .rows)) ≡ length (r .rows) * rowWidth = length-nums (r .rows) in
         let c = r .slot-rows in
         let s = r .slot-names in
         let d = r .dir-rows in
         let h = G .few in
-        let k : length (numsOf (r .rows)) ≡ t .chosen .rows * 4 = omega (arith, n, c) in
+        let k : length (numsOf (r .rows)) ≡ t .chosen .rows * rowWidth = omega (arith, n, c) in
         let l = le-leb (t .chosen .«dir_rows») 256 few in
         rw (slot-count, dir-count, le-leb (t .chosen .rows) 64 h, l, eq-eqb _ _ k, eq-eqb _ _ s, eq-eqb _ _ d) refl
 

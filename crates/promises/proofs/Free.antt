@@ -8,20 +8,21 @@ use mathlib.Core.Logic.{_≢_, _⊎_, inl, inr}
 use mathlib.Core.Bool.{Bool, true, false, false≢true}
 use mathlib.Core.List.{List, [], _++_}
 use lib.ListN.{length, take, drop, length-take, length-drop, length-append}
+use Rattle.limits.specs.Limits.{lastCounter}
 use Rattle.text.specs.Text.{none}
 use Rattle.text.specs.Grammar.{text-complete}
 use Rattle.header.specs.Block.{freeHeader, decoded}
 use Rattle.header.specs.RoundTrip.{Fits}
-use Rattle.header.specs.Laws.{short-absent}
+use Rattle.header.proofs.BlockLaws.{short-absent}
 use Rattle.header.proofs.RoundTrip.{decode-encode, cut-free-decodes}
 use Rattle.device.specs.declared.Geometry.{Geometry}
 use Rattle.device.specs.Device.{Dev, Shape, headerWriteM}
-use Rattle.device.specs.Laws.{same-block}
+use Rattle.device.specs.AnyDevice.{same-block}
 use Rattle.device.specs.Calls.{blockOf}
-use Rattle.device.specs.Memory.{memory}
+use Rattle.device.proofs.Memory.{memory}
 use Rattle.steps.specs.Steps.{fineM, putM, freeBlock, freeM}
-use Rattle.steps.specs.Laws.{length-free}
-use Rattle.steps.specs.Frees.{free-others, put-stopped, free-block}
+use Rattle.steps.proofs.Stays.{length-free}
+use Rattle.steps.proofs.Frees.{free-others, put-stopped, free-block}
 use Rattle.survey.specs.Heads.{absent, idle, saidOf, headOf}
 use Rattle.promises.specs.Demand3.{headerAt}
 
@@ -36,7 +37,7 @@ short-said bs h = ap (saidOf bs) (short-absent bs (length bs) h)
 half-short : (ys old : List ℕ) → length old < 512 → length (take 256 ys ++ drop 256 old) < 512
 half-short ys old l = simp (length-append, length-take, length-drop) (omega arith)
 
-module _ (gen : ℕ) (small : gen < 2 ^ 63) where
+module _ (gen : ℕ) (small : gen < lastCounter) where
   free-fits : Fits (freeHeader gen) []
   free-fits = record { same-length = refl; short = omega arith; len-fits = omega arith; generation-fits = omega arith }
 
@@ -79,7 +80,7 @@ module _ (plan : List ℕ) (g : Geometry) (i gen : ℕ) (d : Dev) (s : Shape g (
       let q : fineM (putM plan g i ys d) ≡ false = ap fineM p ∙ f in
       rw q p
 
-  module _ (small : gen < 2 ^ 63) where
+  module _ (small : gen < lastCounter) where
     written : fineM stored ≡ true → headerAt g freed i ≡ idle gen
     unfolding headerAt
     written f = ap headOf (free-block plan g i d s r gen f) ∙ free-said gen small

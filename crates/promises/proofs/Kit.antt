@@ -8,11 +8,11 @@ use lib.ListN.{length}
 use Rattle.lists.specs.Same.{sameBytes, same-bytes-eq, same-bytes-refl}
 use Rattle.path.specs.Path.{samePath, ancestors}
 use Rattle.path.specs.Theorems.{same-path, same-path-refl, same-path-sym, same-path-trans}
-use Rattle.path.specs.Ancestors.{ancestors-same}
+use Rattle.path.proofs.Ancestors.{ancestors-same}
 use Rattle.device.specs.declared.Geometry.{Geometry}
 use Rattle.device.specs.Device.{Dev, Shape}
 use Rattle.steps.specs.Steps.{fineM, freeM}
-use Rattle.steps.specs.Laws.{free-kept}
+use Rattle.steps.proofs.Stays.{free-kept}
 use Rattle.survey.specs.Heads.{Head, absent, idle, claim, looked}
 use Rattle.model.specs.Model.{Claim, Kit}
 use Rattle.model.specs.Model as M

@@ -1,5 +1,7 @@
 -- The argument, in its order.
 -- Demand 3: what a release makes of the headers,
+
+-- What a release makes of the headers on the device: other slots keep theirs, the slot's own is free or as it was.
 pub mod Free
 -- and so the real pool as a kit of the model;
 pub mod Kit

@@ -10,14 +10,14 @@ use lib.ListN.{length}
 use borrow.Author.Tests.{eq-eqb, eqb-true, le-leb}
 use Rattle.device.specs.declared.Geometry.{Geometry}
 use Rattle.device.specs.Device.{Shape, shapeB}
-use Rattle.device.specs.Shape.{shape-means}
+use Rattle.device.proofs.Shapes.{shape-means}
 use Rattle.table.specs.State.{view}
-use Rattle.admit.specs.Pools.{pool-tested}
+use Rattle.admit.proofs.Exactly.{pool-tested}
 use Rattle.steps.specs.World.{World, Lent, viewW, flatW, Ready}
-use Rattle.steps.specs.Laws.{world-is}
+use Rattle.steps.proofs.Stays.{world-is}
 use Rattle.steps.specs.Outcome.{Outcome, None}
 use Rattle.mount.specs.Mount.{mounted, mountM}
-use Rattle.mount.specs.Laws.{mount-valid}
+use Rattle.mount.proofs.Stays.{mount-valid}
 use Rattle.calls_gate.specs.declared.Call.{Call}
 use Rattle.calls_gate.specs.declared.Call.the-variants.{Mount}
 use Rattle.calls_gate.specs.Table.{takesOf, slotRows, dirRows, chosenOf, rowsB, holdsPool, mountable, textIf, refusalOf}

@@ -18,11 +18,11 @@ use Rattle.steps.specs.World.{World, world}
 use Rattle.survey.specs.Heads.{Head, claim}
 use Rattle.survey.specs.Staged.{wants, wantedOf}
 use Rattle.survey.specs.Survey.{Survey}
-use Rattle.survey.specs.Laws.{scan-counter}
+use Rattle.survey.proofs.Surveyed.{scan-counter}
 use Rattle.mount.specs.Mount.{emptyState}
 use Rattle.model.specs.Model.{Kit}
 use Rattle.model.specs.Model as M
-use Rattle.model.specs.Laws.{bound≢unbound}
+use Rattle.model.proofs.Loops.{bound≢unbound}
 use Rattle.model.specs.Best as B
 use Rattle.model.proofs.Rows.{inside}
 use Rattle.model.proofs.Dirs.{dirsOf-registered, survey-dirs}

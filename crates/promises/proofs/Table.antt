@@ -7,16 +7,17 @@ use mathlib.Core.List.{List, [], _∷_, List·Memᴰ·head, List·Memᴰ·not-ni
 use lib.Dec.{ltb}
 use lib.ListN.{length}
 use borrow.Author.Tests.{lt-ltb, le-ltb}
+use Rattle.limits.specs.Limits.{maxPath, lastCounter}
 use Rattle.lists.specs.Distinct.{In}
 use Rattle.text.specs.Text.{isText}
 use Rattle.header.specs.declared.Header.{Header}
 use Rattle.header.specs.declared.Decoded.the-variants.{Found}
 use Rattle.path.specs.Path.{ancestors}
-use Rattle.device.specs.Shape.{shape-means}
+use Rattle.device.proofs.Shapes.{shape-means}
 use Rattle.rows.specs.Rows.{find}
 use Rattle.dirs.specs.Dirs.{registered}
-use Rattle.dirs.specs.Joined.{absent-few}
-use Rattle.dirs.specs.Laws.{length-registered}
+use Rattle.dirs.proofs.Joined.{absent-few}
+use Rattle.dirs.proofs.Registering.{length-registered}
 use Rattle.table.specs.State.{State}
 use Rattle.steps.specs.World.{World}
 use Rattle.survey.specs.Heads.{absent, claim}
@@ -47,7 +48,7 @@ module _ (m : Mounting) (R : HasRoom m) where
   v = surveyed (m .plan) (g m) (m .k) (w m)
 
   abbrev spent : Bool
-  spent = ltb (2 ^ 63) (v .counter + length (v .losers))
+  spent = ltb lastCounter (v .counter + length (v .losers))
 
   abbrev moves : World
   moves = moved (reading (m .plan) (g m) (m .k) (w m) .place) (w m)
@@ -85,10 +86,10 @@ module _ (m : Mounting) (R : HasRoom m) where
   exceeds i h l e = omega (arith, counts .each i (omega arith) (omega arith), found-wants (block m i) h e)
 
   -- a mount with no loser, whose counter is not too high
-  module _ (lost : v .losers ≡ []) (low : v .counter ≤ 2 ^ 63) where
+  module _ (lost : v .losers ≡ []) (low : v .counter ≤ lastCounter) where
     accepts : inner m ≡ only 0 done
     accepts =
-        let y : spent ≡ false = le-ltb (2 ^ 63) (v .counter + length (v .losers)) (omega (arith, ap length lost)) in
+        let y : spent ≡ false = le-ltb lastCounter (v .counter + length (v .losers)) (omega (arith, ap length lost)) in
         inner-is ∙ rw y
 
     mounts : mount m .number ≡ 0
@@ -135,8 +136,8 @@ module _ (m : Mounting) (R : HasRoom m) where
   unfolding P6
   p6 i h l e top most apart =
       let lost = none-lost apart in
-      let c : v .counter ≡ 2 ^ 63 = omega (arith, exceeds i h l e, counts .most (2 ^ 63) (omega arith) (λ j a b. most j (omega arith))) in
-      let low : v .counter ≤ 2 ^ 63 = omega arith in (
+      let c : v .counter ≡ lastCounter = omega (arith, exceeds i h l e, counts .most lastCounter (omega arith) (λ j a b. most j (omega arith))) in
+      let low : v .counter ≤ lastCounter = omega arith in (
         mounts lost low,
         λ plan path second buf keep j short N b free.
             open-nine (setting lost low plan second buf) path keep short N (some-free lost low j b free) (counter-is lost low ∙ c),
@@ -145,7 +146,7 @@ module _ (m : Mounting) (R : HasRoom m) where
   p7 : P7 m
   unfolding P7
   p7 i h l e top =
-      let y : spent ≡ true = lt-ltb (2 ^ 63) (v .counter + length (v .losers)) (omega (arith, exceeds i h l e)) in
+      let y : spent ≡ true = lt-ltb lastCounter (v .counter + length (v .losers)) (omega (arith, exceeds i h l e)) in
       let c : inner m ≡ only 9 moves = inner-is ∙ rw y in
       out-is ∙ ap (λ (x : Outcome None World). x .out) c
 
@@ -162,7 +163,7 @@ module _ (m : Mounting) (R : HasRoom m) where
     unfolding wants
     counter-one = omega (arith, counts .start, counts .most 1 (omega arith) (λ i a b. omega (arith, ap wants (blank i (omega arith)))))
 
-    low : v .counter ≤ 2 ^ 63
+    low : v .counter ≤ lastCounter
     low = omega (arith, counter-one)
 
     no-dir : v .dirs ≡ []
@@ -190,7 +191,7 @@ module _ (m : Mounting) (R : HasRoom m) where
         le-ltb (find path (rows m)) (length (rows m))
         (omega (arith, r .size, r .unclaimed path (λ j q f n l h. absurd (claimless j l q f n h))))
 
-    blank-opens : (plan path second buf : List ℕ) (keep : Bool) → isText path ≡ true → length path ≤ 480
+    blank-opens : (plan path second buf : List ℕ) (keep : Bool) → isText path ≡ true → length path ≤ maxPath
         → length (ancestors path) ≤ dirRows (m .dirs)
         → Untouched plan 1 (mount m .left .dev .place) → callP plan (g m) (OpenWrite keep) path second buf (mount m .left) .number ≡ 0
     unfolding P1

@@ -16,7 +16,7 @@ use Rattle.survey.specs.Heads.{Head, absent, idle, claim}
 use Rattle.survey.specs.Staged.{wants}
 use Rattle.model.specs.Model.{Claim, Kit}
 use Rattle.model.specs.Model as M
-use Rattle.model.specs.Laws.{unbound≢bound, absent≢claim, idle≢claim}
+use Rattle.model.proofs.Loops.{unbound≢bound, absent≢claim, idle≢claim}
 use Rattle.model.specs.Best as B
 use Rattle.model.specs.Promise as P
 use Rattle.promises.specs.Demand3.{Untouched, Best, Holds, Rule, Registered, SameFiles, SameDirs, SameFree, AllFine, NoneFails}

@@ -7,6 +7,7 @@ use mathlib.Core.Logic.{_≢_}
 use mathlib.Core.Bool.{Bool, true, false}
 use mathlib.Core.List.{List, [], _∷_}
 use lib.ListN.{length, getD, take}
+use Rattle.limits.specs.Limits.{maxPath, lastCounter}
 use Rattle.lists.specs.Distinct.{In}
 use Rattle.text.specs.Text.{isText}
 use Rattle.header.specs.declared.Header.{Header}
@@ -120,7 +121,7 @@ pub record NewFile (path : List ℕ) (s : State) : Type 0 where
 -- What else an open needs: a free slot, a generation that is left, and a truncate that the plan leaves alone.
 pub record Able (c : Setting) : Type 0 where
   pub free : 0 < length (state c .queue)
-  pub left : state c .counter < 2 ^ 63
+  pub left : state c .counter < lastCounter
   pub calm : Untouched (c .plan) 1 (c .lent .dev .place)
 
 module _ (c : Setting) (path : List ℕ) (keep : Bool) where
@@ -140,8 +141,8 @@ module _ (c : Setting) (path : List ℕ) (keep : Bool) where
 -- "P1 480-byte path opens, 481 gets 4": 4 whatever else is so of a path that is text.
 unfoldable pub P1 : Setting → Type 0
 P1 c = (path : List ℕ) (keep : Bool)
-    → (length path ≤ 480 → NewFile path (state c) → Able c → Opens c path keep)
-    × (480 < length path → isText path ≡ true → opened c path keep ≡ unchanged c 4)
+    → (length path ≤ maxPath → NewFile path (state c) → Able c → Opens c path keep)
+    × (maxPath < length path → isText path ≡ true → opened c path keep ≡ unchanged c 4)
 
 -- ---- P2, P3
 
@@ -188,7 +189,7 @@ module _ (c : Setting) where
   -- "P5 `a` renamed to `a/` changes nothing; 5 if absent", and so is any path renamed to an equal one that isn't too long.
   unfoldable pub P5 : Type 0
   P5 = Unmoved (97 ∷ []) (97 ∷ 47 ∷ [])
-      × ((from to : List ℕ) → isText from ≡ true → isText to ≡ true → length to ≤ 480 → samePath from to ≡ true → Unmoved from to)
+      × ((from to : List ℕ) → isText from ≡ true → isText to ≡ true → length to ≤ maxPath → samePath from to ≡ true → Unmoved from to)
 
 -- ---- P6, P7
 
@@ -209,15 +210,15 @@ module _ (m : Mounting) where
   -- "P6 generation 2^63 - 1 in a valid header mounts, and a new open then gets 9": none is higher and none loses; and slot j is free for
   -- the open.
   unfoldable pub P6 : Type 0
-  P6 = (i : ℕ) (h : Header) → i < m .k → valid m i ≡ Found h → h .generation ≡ 2 ^ 63 - 1
-      → ((j : ℕ) → j < m .k → wants (head m j) ≤ 2 ^ 63) → Apart
+  P6 = (i : ℕ) (h : Header) → i < m .k → valid m i ≡ Found h → h .generation ≡ lastCounter - 1
+      → ((j : ℕ) → j < m .k → wants (head m j) ≤ lastCounter) → Apart
       → (mount m .number ≡ 0)
-      × ((plan path second buf : List ℕ) (keep : Bool) (j : ℕ) → length path ≤ 480 → NewFile path (held m) → j < m .k → Claimless m j
+      × ((plan path second buf : List ℕ) (keep : Bool) (j : ℕ) → length path ≤ maxPath → NewFile path (held m) → j < m .k → Claimless m j
       → callP plan (m .geometry) (OpenWrite keep) path second buf (mount m .left) ≡ came 9 nothing (mount m .left) buf)
 
   -- "P7 2^63 gets 9 at mount", and so does every higher generation, whatever the other headers are.
   unfoldable pub P7 : Type 0
-  P7 = (i : ℕ) (h : Header) → i < m .k → valid m i ≡ Found h → 2 ^ 63 ≤ h .generation → mount m .number ≡ 9
+  P7 = (i : ℕ) (h : Header) → i < m .k → valid m i ≡ Found h → lastCounter ≤ h .generation → mount m .number ≡ 9
 
   -- ---- P8
 
@@ -248,6 +249,6 @@ pub record TableP : Type 0 where
 unfoldable pub FromBlank : Type 0
 FromBlank = (m : Mounting) → HasRoom m → 0 < m .k → ((i : ℕ) → i < m .k → head m i ≡ absent)
     → (mount m .number ≡ 0)
-    × ((plan path second buf : List ℕ) (keep : Bool) → isText path ≡ true → length path ≤ 480 → length (ancestors path) ≤ dirRows (m .dirs)
+    × ((plan path second buf : List ℕ) (keep : Bool) → isText path ≡ true → length path ≤ maxPath → length (ancestors path) ≤ dirRows (m .dirs)
     → Untouched plan 1 (mount m .left .dev .place)
     → callP plan (m .geometry) (OpenWrite keep) path second buf (mount m .left) .number ≡ 0)

@@ -5,6 +5,7 @@ use Prim.Native.Nat.{ℕ, _+_, _*_, _≤_}
 use mathlib.Core.Path.{_≡_}
 use mathlib.Core.List.{List}
 use lib.ListN.{length}
+use Rattle.limits.specs.Limits.{maxPath, dirWidth}
 use Rattle.device.specs.declared.Place.{Place}
 use Rattle.device.specs.Device.{dev}
 use Rattle.records.specs.declared.Slot.{Slot}
@@ -56,8 +57,8 @@ module _ (t : Trial) where
     pub second : List ℕ
     pub buf : List ℕ
     pub slot-rows : length rows ≡ t .chosen .rows
-    pub slot-names : length names ≡ t .chosen .rows * 480
-    pub dir-rows : length dirs ≡ t .chosen .«dir_rows» * 482
+    pub slot-names : length names ≡ t .chosen .rows * maxPath
+    pub dir-rows : length dirs ≡ t .chosen .«dir_rows» * dirWidth
 
   -- A mount of k slots of the trial's device, under a plan from a place on.
   abbrev pub mounting : Lending → List ℕ → Place → ℕ → Asked

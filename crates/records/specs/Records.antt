@@ -2,6 +2,7 @@
 use mathlib.Core.List.{List, [], _∷_, _++_}
 use Prim.Native.Nat.{ℕ, _+_, _*_}
 use lib.ListN.{length, getD, take, drop, replicate}
+use Rattle.limits.specs.Limits.{rowWidth}
 use Rattle.lists.specs.Blocks.{pad, cat}
 use Rattle.rows.specs.Rows.{Row, unbound, bound, markOf}
 use Rattle.records.specs.declared.Slot.{Slot}
@@ -31,7 +32,7 @@ numsOf rs = cat slotNums rs
 
 -- the record of the four numbers from i * 4 on
 unfoldable pub slotIn : List ℕ → ℕ → Slot
-slotIn s i = record { mark = getD s (i * 4) 0; «path_len» = getD s (i * 4 + 1) 0; len = getD s (i * 4 + 2) 0; generation = getD s (i * 4 + 3) 0 }
+slotIn s i = record { mark = getD s (i * rowWidth) 0; «path_len» = getD s (i * rowWidth + 1) 0; len = getD s (i * rowWidth + 2) 0; generation = getD s (i * rowWidth + 3) 0 }
 
 -- the records of a run of numbers, four a record
 unfoldable pub slotsOf : List ℕ → List Slot
@@ -43,11 +44,11 @@ slotsOf (m ∷ k ∷ n ∷ g ∷ s) = record { mark = m; «path_len» = k; len =
 
 -- a buffer with the rows' numbers over its front
 unfoldable pub loaded : List Slot → List ℕ → List ℕ
-loaded rs s = numsOf rs ++ drop (length rs * 4) s
+loaded rs s = numsOf rs ++ drop (length rs * rowWidth) s
 
 -- the rows with the numbers at a buffer's front for theirs
 unfoldable pub stored : List ℕ → List Slot → List Slot
-stored s rs = slotsOf (take (length rs * 4) s)
+stored s rs = slotsOf (take (length rs * rowWidth) s)
 
 -- the numbers of at most 64 rows, zero filled
 unfoldable pub flatOf : List Slot → List ℕ

@@ -2,11 +2,13 @@
 // row is read without copying 480 of them. `get` and `set` touch one row, and no other function touches one: through them the flat numbers
 // that crate rows works on are loaded from the records, and stored back. Nothing is refused: an index is within the run, and a buffer has
 // room for four numbers a row.
+use limits::ROW_WIDTH;
 ghost use mathlib.Core.Path.{_≡_};
 ghost use mathlib.Core.Bool.{true};
 ghost use Prim.Native.Nat.{_+_, _*_, _/_, _≤_, _<_};
 ghost use lib.ListN.{length, set, take, replicate};
 ghost use lib.Seq.{sets};
+ghost use Rattle.limits.specs.Limits.{rowWidth};
 ghost use Rattle.records.specs.Records.{none, slotAt, slotNums, numsOf, slotIn, loaded, stored, flatOf, cleared};
 ghost use Rattle.records.specs.Whole.{wholeRows, spreadOf};
 
@@ -40,7 +42,7 @@ pub fn set(rows: &mut [Slot], i: usize, slot: Slot)
 
 // Writes the numbers of the rows over the front of a buffer, one row after the other; what it has behind them stays.
 pub fn load(rows: &[Slot], nums: &mut [u64])
-    requires { ⌜ length (now rows) * 4 ≤ length (now nums) ⌝ }
+    requires { ⌜ length (now rows) * rowWidth ≤ length (now nums) ⌝ }
     ensures { λ _. ⌜ now (nums .exit) ≡ loaded (now (rows .entry)) (now (nums .entry)) ⌝ }
 {
     let mut i: usize = 0;
@@ -53,7 +55,7 @@ pub fn load(rows: &[Slot], nums: &mut [u64])
 
 // Makes the rows those of the numbers at the front of a buffer.
 pub fn store(rows: &mut [Slot], nums: &[u64])
-    requires { ⌜ length (now rows) * 4 ≤ length (now nums) ⌝ }
+    requires { ⌜ length (now rows) * rowWidth ≤ length (now nums) ⌝ }
     ensures { λ _. ⌜ now (rows .exit) ≡ stored (now (nums .entry)) (now (rows .entry)) ⌝ }
 {
     let mut i: usize = 0;
@@ -126,7 +128,7 @@ pub fn rows_of(nums: &[u64]) -> [Slot; 66]
     ensures { λ r. ⌜ r ≡ spreadOf (now (nums .entry)) ⌝ }
 {
     let mut rows = no_rows();
-    let n = nums.len() / 4;
+    let n = nums.len() / ROW_WIDTH;
     let mut i: usize = 0;
     while i < n {
         rows[i] = from_nums(nums, i);
@@ -138,9 +140,9 @@ pub fn rows_of(nums: &[u64]) -> [Slot; 66]
 // Makes whole rows of numbers those of the records at the front of an array.
 pub fn put_rows(nums: &mut [u64], rows: [Slot; 66])
     requires { ⌜ wholeRows (now nums) ≡ true ⌝ }
-    ensures { λ _. ⌜ now (nums .exit) ≡ numsOf (take (length (now (nums .entry)) / 4) rows) ⌝ }
+    ensures { λ _. ⌜ now (nums .exit) ≡ numsOf (take (length (now (nums .entry)) / rowWidth) rows) ⌝ }
 {
-    let n = nums.len() / 4;
+    let n = nums.len() / ROW_WIDTH;
     let mut i: usize = 0;
     while i < n {
         let slot = rows[i];
@@ -168,10 +170,10 @@ fn zeros() -> [u64; 256]
 
 // Writes the four numbers of row i.
 fn put_nums(nums: &mut [u64], i: usize, slot: Slot)
-    requires { ⌜ i * 4 + 4 ≤ length (now nums) ⌝ }
-    ensures { λ _. ⌜ now (nums .exit) ≡ sets (now (nums .entry)) (i * 4) (slotNums slot) ⌝ }
+    requires { ⌜ i * rowWidth + rowWidth ≤ length (now nums) ⌝ }
+    ensures { λ _. ⌜ now (nums .exit) ≡ sets (now (nums .entry)) (i * rowWidth) (slotNums slot) ⌝ }
 {
-    let at = i * 4;
+    let at = i * ROW_WIDTH;
     nums[at] = slot.mark;
     nums[at + 1] = slot.path_len;
     nums[at + 2] = slot.len;
@@ -180,10 +182,10 @@ fn put_nums(nums: &mut [u64], i: usize, slot: Slot)
 
 // The row of the four numbers of row i.
 fn from_nums(nums: &[u64], i: usize) -> Slot
-    requires { ⌜ i * 4 + 4 ≤ length (now nums) ⌝ }
+    requires { ⌜ i * rowWidth + rowWidth ≤ length (now nums) ⌝ }
     ensures { λ r. ⌜ r ≡ slotIn (now (nums .entry)) i ⌝ }
 {
-    let at = i * 4;
+    let at = i * ROW_WIDTH;
     Slot {
         mark: nums[at],
         path_len: nums[at + 1],

@@ -5,6 +5,7 @@ use mathlib.Core.Bool.{cond}
 use mathlib.Core.List.{List}
 use lib.Dec.{eqb, ltb}
 use lib.ListN.{length}
+use Rattle.limits.specs.Limits.{maxPath}
 use Rattle.path.specs.Path.{samePath}
 use Rattle.device.specs.declared.Geometry.{Geometry}
 use Rattle.rows.specs.Rows.{at, lenOf}
@@ -12,7 +13,7 @@ use Rattle.table.specs.Numbers.{isNumber}
 use Rattle.table.specs.State.{State}
 use Rattle.steps.specs.World.{World}
 use Rattle.steps.specs.Steps.{fineM, releaseM}
-use Rattle.steps.specs.Numbers.{LastW, either, put-last, release-last}
+use Rattle.steps.proofs.Numbers.{LastW, either, put-last, release-last}
 use Rattle.steps.specs.Outcome.{None, Out, came, outcome}
 use Rattle.files.specs.Files.{isFile, room}
 use Rattle.files.proofs.Numbers.{room-number}
@@ -27,7 +28,7 @@ unfolding frontM
 front-number from to s =
     let n = room (needs to s) to s in
     let h : isNumber n = room-number (needs to s) to (s .chosen .«dir_rows») (s .dirs) (s .counter) in
-    either OutC (ltb 480 (length to)) {x = stopped 4} (omega arith)
+    either OutC (ltb maxPath (length to)) {x = stopped 4} (omega arith)
     (either OutC (samePath from to) {x = stopped (cond (isFile from s) 0 5)} (either isNumber (isFile from s) (omega arith) (omega arith))
     (either OutC (isFile from s) {y = stopped 5} (either OutC (eqb n 0) {y = stopped n} (omega arith) h) (omega arith)))
 

@@ -4,6 +4,7 @@ use mathlib.Core.Bool.{Bool, true, false, cond}
 use mathlib.Core.List.{List}
 use lib.Dec.{eqb, ltb}
 use lib.ListN.{length}
+use Rattle.limits.specs.Limits.{maxPath}
 use Rattle.path.specs.Path.{samePath}
 use Rattle.header.specs.Block.{boundHeader, encoded}
 use Rattle.device.specs.declared.Geometry.{Geometry}
@@ -31,7 +32,7 @@ admitted n i j = cond (eqb n 0) (record { out = 0; go = true; from = i; to = j }
 -- "Rename: 4, equal paths, 5, 8, 9"; "Equal paths: nothing changes, or 5."
 unfoldable pub frontM : List ℕ → List ℕ → State → Course
 frontM from to s =
-    cond (ltb 480 (length to)) (stopped 4)
+    cond (ltb maxPath (length to)) (stopped 4)
     (cond (samePath from to) (stopped (cond (isFile from s) 0 5))
     (cond (isFile from s) (admitted (room (needs to s) to s) (find from (s .rows)) (find to (s .rows))) (stopped 5)))
 

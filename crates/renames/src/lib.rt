@@ -6,6 +6,7 @@ use device::Geometry;
 use device::Place;
 use files::Done;
 use header::Header;
+use limits::MAX_PATH;
 use steps::Stepped;
 use table::Pool;
 ghost use mathlib.Core.Path.{_≡_};
@@ -13,6 +14,7 @@ ghost use mathlib.Core.Bool.{true, cond};
 ghost use Prim.Native.Nat.{_^_, _≤_, _<_};
 ghost use lib.Dec.{ltb};
 ghost use lib.ListN.{length};
+ghost use Rattle.limits.specs.Limits.{maxPath, lastCounter};
 ghost use Rattle.lists.specs.Distinct.{In};
 ghost use Rattle.device.specs.Device.{dev};
 ghost use Rattle.dirs.specs.Dirs.{registered};
@@ -22,9 +24,6 @@ ghost use Rattle.table.specs.State.{bufs, bufsBefore, view, queueOf, IsPool};
 ghost use Rattle.steps.specs.World.{lent, viewW, flatW, Ready, before, after};
 ghost use Rattle.steps.specs.Outcome.{outcome, flatO};
 ghost use Rattle.renames.specs.Rename.{stopped, frontM, rebindM, vacatedM, settledM, renameM};
-
-// The longest path of a file.
-const MAX_PATH: usize = 480;
 
 // The number of a rename that ends before the device, or that it goes on, with the slot of `from` and that of `to`, which is the count of
 // slots where no file has that path.
@@ -106,8 +105,8 @@ fn rebind(
     requires { ⌜
         (i < pool .held)
         × (isBound (at (rowsOf (now nums) (now names) (pool .held)) i) ≡ true)
-        × (pool .counter < 2 ^ 63)
-        × (length (now to) ≤ 480) ⌝ }
+        × (pool .counter < lastCounter)
+        × (length (now to) ≤ maxPath) ⌝ }
     ensures { λ r. ⌜
         after bytes phys (r .place) nums names dirs (r .pool)
         ≡ flatW (rebindM (now (plan .entry)) geometry i (now (to .entry)) (viewW (before bytes phys place nums names dirs pool))) ⌝ }
@@ -147,7 +146,7 @@ fn vacate(
     j: usize,
 ) -> Stepped
     requires { ⌜ Ready geometry (lent (dev (now bytes) (now phys) place) (bufs pool (now nums) (now names) (now dirs))) ⌝ }
-    requires { ⌜ (j < pool .held → (In j (queueOf pool) → ⊥) × (pool .counter < 2 ^ 63)) ⌝ }
+    requires { ⌜ (j < pool .held → (In j (queueOf pool) → ⊥) × (pool .counter < lastCounter)) ⌝ }
     ensures { λ r. ⌜
         after bytes phys (r .place) nums names dirs (r .pool)
         ≡ flatW (vacatedM (now (plan .entry)) geometry j (viewW (before bytes phys place nums names dirs pool))) ⌝ }
@@ -191,10 +190,10 @@ fn settle(
     len: u64,
 ) -> Done
     requires { ⌜ Ready geometry (lent (dev (now bytes) (now phys) place) (bufs pool (now nums) (now names) (now dirs))) ⌝ }
-    requires { ⌜ (j < pool .held → (In j (queueOf pool) → ⊥) × (pool .counter < 2 ^ 63)) ⌝ }
+    requires { ⌜ (j < pool .held → (In j (queueOf pool) → ⊥) × (pool .counter < lastCounter)) ⌝ }
     requires { ⌜
         (i < pool .held)
-        × (length (now to) ≤ 480)
+        × (length (now to) ≤ maxPath)
         × (length (registered (dirsOf (now dirs) (pool .dirs)) (now to)) ≤ pool .chosen .«dir_rows») ⌝ }
     ensures { λ r. ⌜
         outcome (r .out) tt (after bytes phys (r .place) nums names dirs (r .pool))

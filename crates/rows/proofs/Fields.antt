@@ -7,11 +7,12 @@ use native.Mathlib.Omega.{arith}
 use lib.Dec.{eqb}
 use lib.ListN.{length, getD, set, take, drop, replicate}
 use lib.Seq.{sets, set-getD, getD-set-other}
+use Rattle.limits.specs.Limits.{maxPath, rowWidth}
 use Rattle.path.specs.Path.{samePath}
 use Rattle.lists.specs.Blocks.{pad, sets-four}
 use Rattle.rows.specs.Rows.{Row, file, unbound, bound, at, isBound, pathOf, genOf, lenOf, isDirty, refiled, resized, holds, markOf, rowNums, rowName, rowsOf, Flat}
-use Rattle.rows.specs.Laws.{resized-path, num-at, name-part, row-kept, row-stored}
-use Rattle.rows.specs.Find.{holds-path}
+use Rattle.rows.proofs.InBuffers.{resized-path, num-at, name-part, row-kept, row-stored}
+use Rattle.rows.proofs.Finding.{holds-path}
 
 pub mark-bound : (r : Row) → not (eqb (getD (rowNums r) 0 0) 0) ≡ isBound r
 unfolding rowNums isBound markOf
@@ -63,24 +64,24 @@ sets-two l k a c =
     ∙ sets-four l k a (getD l (k + 1) 0) c (getD l (k + 3) 0)
 
 module _ (cap n : ℕ) (l s : List ℕ) (F : Flat cap n l s) (i : ℕ) (h : i < n) where
-  pub resized-stored : (l₁ : List ℕ) (m len : ℕ) (d : Bool) → isBound (at (rowsOf l s n) i) ≡ true → m ≡ markOf d → l₁ ≡ set (set l (i * 4) m) (i * 4 + 2) len
+  pub resized-stored : (l₁ : List ℕ) (m len : ℕ) (d : Bool) → isBound (at (rowsOf l s n) i) ≡ true → m ≡ markOf d → l₁ ≡ set (set l (i * rowWidth) m) (i * rowWidth + 2) len
       → (rowsOf l₁ s n ≡ set (rowsOf l s n) i (resized len d (at (rowsOf l s n) i))) × Flat cap n l₁ s
   resized-stored l₁ m len d b e a =
       row-kept cap n l s F i h (resized len d (at (rowsOf l s n) i)) l₁ (resized-path len d (at (rowsOf l s n) i))
-      (a ∙ sets-two l (i * 4) m len ∙ rw (resized-nums len d (at (rowsOf l s n) i) b, e, num-at cap n l s F i h 1 (omega arith), num-at cap n l s F i h 3 (omega arith)))
+      (a ∙ sets-two l (i * rowWidth) m len ∙ rw (resized-nums len d (at (rowsOf l s n) i) b, e, num-at cap n l s F i h 1 (omega arith), num-at cap n l s F i h 3 (omega arith)))
 
   -- whether the row's part of the names spells p
   pub row-spells : (p : List ℕ) (k : ℕ) → k ≡ length (pathOf (at (rowsOf l s n) i)) → isBound (at (rowsOf l s n) i) ≡ true
-      → samePath (take (i * 480 + k - i * 480) (drop (i * 480) s)) p ≡ holds p (at (rowsOf l s n) i)
+      → samePath (take (i * maxPath + k - i * maxPath) (drop (i * maxPath) s)) p ≡ holds p (at (rowsOf l s n) i)
   row-spells p k e b = ap (λ (x : List ℕ). samePath x p) (name-part cap n l s F i h k e .1) ∙ sym (holds-path p (at (rowsOf l s n) i) b)
 
-  pub bound-stored : (p l₁ s₁ : List ℕ) (m g len : ℕ) (d : Bool) → length p ≤ 480 → m ≡ markOf d
-      → l₁ ≡ sets l (i * 4) (m ∷ length p ∷ len ∷ g ∷ []) → s₁ ≡ sets s (i * 480) (pad 480 p)
+  pub bound-stored : (p l₁ s₁ : List ℕ) (m g len : ℕ) (d : Bool) → length p ≤ maxPath → m ≡ markOf d
+      → l₁ ≡ sets l (i * rowWidth) (m ∷ length p ∷ len ∷ g ∷ []) → s₁ ≡ sets s (i * maxPath) (pad maxPath p)
       → (rowsOf l₁ s₁ n ≡ set (rowsOf l s n) i (bound p (file g len d))) × Flat cap n l₁ s₁
   unfolding rowNums rowName pathOf
   bound-stored p l₁ s₁ m g len d k e a b = row-stored cap n l s F i h (bound p (file g len d)) l₁ s₁ k (rw e at a) b
 
-  pub unbound-stored : (l₁ s₁ : List ℕ) (g : ℕ) → l₁ ≡ sets l (i * 4) (0 ∷ 0 ∷ 0 ∷ g ∷ []) → s₁ ≡ sets s (i * 480) (replicate 480 0)
+  pub unbound-stored : (l₁ s₁ : List ℕ) (g : ℕ) → l₁ ≡ sets l (i * rowWidth) (0 ∷ 0 ∷ 0 ∷ g ∷ []) → s₁ ≡ sets s (i * maxPath) (replicate maxPath 0)
       → (rowsOf l₁ s₁ n ≡ set (rowsOf l s n) i (unbound g)) × Flat cap n l₁ s₁
   unfolding rowNums rowName pathOf pad
   unbound-stored l₁ s₁ g a b = row-stored cap n l s F i h (unbound g) l₁ s₁ (omega arith) a b

@@ -5,6 +5,7 @@ use mathlib.Core.Bool.{Bool, true, false, cond}
 use Prim.Native.Nat.{ℕ, zero, suc, _*_, _≤_}
 use lib.Dec.{eqb}
 use lib.ListN.{length, getD, take, drop}
+use Rattle.limits.specs.Limits.{maxPath, rowWidth}
 use Rattle.lists.specs.Blocks.{pad, cat}
 use Rattle.path.specs.Path.{samePath}
 
@@ -90,14 +91,14 @@ rowNums (bound p f) = markOf (f .dirty) ∷ length p ∷ f .len ∷ f .gen ∷ [
 
 -- the path, zero filled
 unfoldable pub rowName : Row → List ℕ
-rowName r = pad 480 (pathOf r)
+rowName r = pad maxPath (pathOf r)
 
 -- the rows in buffers of cap rows: what lies past them is zero
 unfoldable pub flatNums : ℕ → List Row → List ℕ
-flatNums cap rs = pad (cap * 4) (cat rowNums rs)
+flatNums cap rs = pad (cap * rowWidth) (cat rowNums rs)
 
 unfoldable pub flatNames : ℕ → List Row → List ℕ
-flatNames cap rs = pad (cap * 480) (cat rowName rs)
+flatNames cap rs = pad (cap * maxPath) (cat rowName rs)
 
 -- the row of mark m, path length k, file length n and generation g, whose name starts s
 unfoldable pub rowFrom : ℕ → ℕ → ℕ → ℕ → List ℕ → Row
@@ -108,11 +109,11 @@ unfoldable pub rowsOf : List ℕ → List ℕ → ℕ → List Row
 rowsOf nums names zero = []
 rowsOf nums names (suc n) =
     rowFrom (getD nums 0 0) (getD nums 1 0) (getD nums 2 0) (getD nums 3 0) names
-    ∷ rowsOf (drop 4 nums) (drop 480 names) n
+    ∷ rowsOf (drop rowWidth nums) (drop maxPath names) n
 
 -- no path is longer than its place
 abbrev pub Short : List Row → Type 0
-Short rs = (i : ℕ) → length (pathOf (at rs i)) ≤ 480
+Short rs = (i : ℕ) → length (pathOf (at rs i)) ≤ maxPath
 
 -- the buffers are those of cap rows, and are the flat form of their first n
 pub record Flat (cap n : ℕ) (l s : List ℕ) : Type 0 where

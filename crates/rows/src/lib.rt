@@ -1,12 +1,15 @@
 // The slot rows of a pool in lent buffers, in place of pool.rs's `Slot` and its map from paths: 4 numbers a row (mark, path length,
 // file length, generation) and 480 bytes of path a row, zero filled. Rows are read, made and changed only here, and the row of a path
 // is found here. Nothing is refused: a call on a row needs buffers that are the flat form of their first n rows.
+use limits::MAX_PATH;
+use limits::ROW_WIDTH;
 ghost use mathlib.Core.Path.{_≡_};
 ghost use mathlib.Core.List.{[], _∷_};
 ghost use mathlib.Core.Bool.{true, false};
 ghost use Prim.Native.Nat.{_+_, _*_, _≤_, _<_};
 ghost use lib.ListN.{length, getD, set, replicate};
 ghost use lib.Seq.{sets};
+ghost use Rattle.limits.specs.Limits.{maxPath, rowWidth};
 ghost use Rattle.lists.specs.Blocks.{pad};
 ghost use Rattle.path.specs.Path.{samePath, keyOf};
 ghost use Rattle.rows.specs.Rows.{file, at, unbound, bound, isBound, pathOf, genOf, lenOf, isDirty, resized, cleaned, holds};
@@ -65,10 +68,10 @@ pub fn put_padded(dst: &mut [u8], at: usize, width: usize, src: &[u8])
 
 // Writes the four numbers of row i.
 fn put_nums(nums: &mut [u64], i: usize, mark: u64, path_len: u64, len: u64, generation: u64)
-    requires { ⌜ i * 4 + 4 ≤ length (now nums) ⌝ }
-    ensures { λ _. ⌜ now (nums .exit) ≡ sets (now (nums .entry)) (i * 4) (mark ∷ «path_len» ∷ len ∷ generation ∷ []) ⌝ }
+    requires { ⌜ i * rowWidth + rowWidth ≤ length (now nums) ⌝ }
+    ensures { λ _. ⌜ now (nums .exit) ≡ sets (now (nums .entry)) (i * rowWidth) (mark ∷ «path_len» ∷ len ∷ generation ∷ []) ⌝ }
 {
-    let at = i * 4;
+    let at = i * ROW_WIDTH;
     nums[at] = mark;
     nums[at + 1] = path_len;
     nums[at + 2] = len;
@@ -82,7 +85,7 @@ fn num(nums: &[u64], names: &[u8], cap: usize, n: usize, i: usize, k: usize) -> 
     requires { ⌜ Flat cap n (now nums) (now names) × (i < n) × (k < 4) ⌝ }
     ensures { λ r. ⌜ r ≡ getD (rowNums (at (rowsOf (now (nums .entry)) (now (names .entry)) n) i)) k 0 ⌝ }
 {
-    let o = i * 4 + k;
+    let o = i * ROW_WIDTH + k;
     nums[o]
 }
 
@@ -150,14 +153,14 @@ pub fn bind_row(
     len: u64,
     dirty: bool,
 )
-    requires { ⌜ Flat cap n (now nums) (now names) × (i < n) × (length (now p) ≤ 480) ⌝ }
+    requires { ⌜ Flat cap n (now nums) (now names) × (i < n) × (length (now p) ≤ maxPath) ⌝ }
     ensures rows { λ _. ⌜
         rowsOf (now (nums .exit)) (now (names .exit)) n
         ≡ set (rowsOf (now (nums .entry)) (now (names .entry)) n) i (bound (now (p .entry)) (file generation len dirty)) ⌝ }
     ensures flat { λ _. ⌜ Flat cap n (now (nums .exit)) (now (names .exit)) ⌝ }
 {
     put_nums(nums, i, mark(dirty), p.len() as u64, len, generation);
-    put_padded(names, i * 480, 480, p);
+    put_padded(names, i * MAX_PATH, MAX_PATH, p);
 }
 
 // Unbinds row i under a generation: all else of the row becomes zero.
@@ -176,7 +179,7 @@ pub fn unbind_row(
     ensures flat { λ _. ⌜ Flat cap n (now (nums .exit)) (now (names .exit)) ⌝ }
 {
     put_nums(nums, i, 0, 0, 0, generation);
-    zero_in(names, i * 480, 480);
+    zero_in(names, i * MAX_PATH, MAX_PATH);
 }
 
 // Gives the bound row i a file length and a dirty bit; its path and generation stay.
@@ -196,7 +199,7 @@ pub fn set_row_len(
         (resized len dirty (at (rowsOf (now (nums .entry)) (now (names .entry)) n) i)) ⌝ }
     ensures flat { λ _. ⌜ Flat cap n (now (nums .exit)) (now (names .entry)) ⌝ }
 {
-    let at = i * 4;
+    let at = i * ROW_WIDTH;
     nums[at] = mark(dirty);
     nums[at + 2] = len;
 }
@@ -244,7 +247,7 @@ fn row_is(nums: &[u64], names: &[u8], cap: usize, n: usize, i: usize, p: &[u8], 
 {
     if is_bound(nums, names, cap, n, i) {
         let k = path_len(nums, names, cap, n, i);
-        let from = i * 480;
+        let from = i * MAX_PATH;
         return spells(&names[from..from + k], p, key);
     }
     false

@@ -7,6 +7,7 @@ use native.Mathlib.Omega.{arith}
 use borrow.Author.Tests.{eq-eqb, ne-eqb}
 use lib.ListN.{length, take, drop}
 use lib.Seq.{take-at}
+use Rattle.limits.specs.Limits.{maxPath, rowWidth, dirWidth}
 use Rattle.lists.specs.Runs.{tab}
 use Rattle.le.specs.Le.{Bytes}
 use Rattle.device.specs.declared.Geometry.{Geometry}
@@ -16,12 +17,12 @@ use Rattle.table.specs.State.{bufs}
 use Rattle.mount.specs.Mount.{zeroPool}
 use Rattle.steps.specs.World.{Lent, lent}
 use Rattle.writer.specs.Writer.{Shown, shown, pours, poured}
-use Rattle.writer.specs.Laws.{pours-none, pours-append, pours-all, pours-then}
+use Rattle.writer.proofs.InParts.{pours-none, pours-append, pours-all, pours-then}
 use Rattle.reader.specs.declared.Op.{Op}
 use Rattle.reader.specs.declared.Setup.{Setup}
 use Rattle.reader.specs.declared.Span.{Span}
 use Rattle.reader.specs.Format.{noSpan, part, opAt, operations, setupAt, lengthAt, Patching, patching, patchAt, patchedM}
-use Rattle.reader.specs.Laws.{patch-end, Held, Sound, op-sound}
+use Rattle.reader.specs.Reading.{patch-end, Held, Sound, op-sound}
 use Rattle.tables.specs.Tables.{recordShown, deviceShown}
 use Rattle.operate.specs.Operate.{Said, said, opM, Reached, reached, spoken}
 use Rattle.script.specs.Script.{followed, runM, whole, closed, geometryOf, startPlace, zeros, patchedDevice, startM, ranM, behindSetup, scriptM}
@@ -77,7 +78,7 @@ closed-parts x o t l e = (ap (λ (r : Reached). r .shown) e, ap (λ (r : Reached
 
 -- ---- the start
 
-pub rows-are : (s : List ℕ) (u : Setup) (d h : List ℕ) (i : ℕ) (q : Pool) (l n e : List ℕ) → q ≡ zeroPool → l ≡ zeros (u .rows * 4) → n ≡ zeros (u .rows * 480) → e ≡ zeros (u .«dir_rows» * 482)
+pub rows-are : (s : List ℕ) (u : Setup) (d h : List ℕ) (i : ℕ) (q : Pool) (l n e : List ℕ) → q ≡ zeroPool → l ≡ zeros (u .rows * rowWidth) → n ≡ zeros (u .rows * maxPath) → e ≡ zeros (u .«dir_rows» * dirWidth)
     → runM s (part s (u .plan)) (geometryOf u) (operations (length s) s i) (lent (dev d h startPlace) (bufs q l n e)) ≡ ranM s u d h i
 unfolding ranM startM
 rows-are s u d h i q l n e eq el en ee = rw (eq, el, en, ee)

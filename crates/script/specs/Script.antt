@@ -3,6 +3,7 @@ use Prim.Native.Nat.{ℕ, _*_}
 use mathlib.Core.Bool.{Bool, cond}
 use mathlib.Core.List.{List, [], _∷_, _++_}
 use lib.ListN.{length, replicate}
+use Rattle.limits.specs.Limits.{maxPath, rowWidth, dirWidth}
 use Rattle.lists.specs.Runs.{tab}
 use Rattle.device.specs.declared.Geometry.{Geometry}
 use Rattle.device.specs.declared.Place.{Place}
@@ -52,7 +53,7 @@ patchedDevice s u = patchedM s (u .count) (u .patches) (zeros (u .slots * u .siz
 
 -- What is lent at the start: the device's bytes d, the physical lengths h, and the rows. "No pool is mounted at the start: the record is zero."
 unfoldable pub startM : Setup → List ℕ → List ℕ → Lent
-startM u d h = lent (dev d h startPlace) (bufs zeroPool (zeros (u .rows * 4)) (zeros (u .rows * 480)) (zeros (u .«dir_rows» * 482)))
+startM u d h = lent (dev d h startPlace) (bufs zeroPool (zeros (u .rows * rowWidth)) (zeros (u .rows * maxPath)) (zeros (u .«dir_rows» * dirWidth)))
 
 -- The operations from i on, from that start.
 unfoldable pub ranM : List ℕ → Setup → List ℕ → List ℕ → ℕ → Said

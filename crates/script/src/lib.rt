@@ -3,6 +3,9 @@
 // puts out nothing.
 use device::Geometry;
 use device::Place;
+use limits::DIR_WIDTH;
+use limits::MAX_PATH;
+use limits::ROW_WIDTH;
 use operate::Ran;
 use reader::Setup;
 use table::Pool;
@@ -11,7 +14,7 @@ ghost use Prim.Native.Nat.{_*_, _^_, _≤_, _<_};
 ghost use lib.ListN.{length, replicate};
 ghost use Rattle.steps.specs.World.{before, after};
 ghost use Rattle.reader.specs.Format.{operations};
-ghost use Rattle.reader.specs.Laws.{Fine};
+ghost use Rattle.reader.specs.Reading.{Fine};
 ghost use Rattle.writer.specs.Writer.{shown, pours, poured};
 ghost use Rattle.operate.specs.Operate.{reached, spoken};
 ghost use Rattle.script.specs.Script.{runM, whole, closed, ranM, patchedDevice, behindSetup, scriptM};
@@ -175,9 +178,9 @@ fn on_rows(
 {
     let rows = setup.rows;
     let dir_rows = setup.dir_rows;
-    let k = rows * 4;
-    let m = rows * 480;
-    let d = dir_rows * 482;
+    let k = rows * ROW_WIDTH;
+    let m = rows * MAX_PATH;
+    let d = dir_rows * DIR_WIDTH;
     let plan = setup.plan;
     let a = plan.from;
     let e = plan.to;

@@ -5,11 +5,13 @@
 use device::Geometry;
 use device::Place;
 use header::Header;
+use limits::MAX_PATH;
 use table::Pool;
 ghost use mathlib.Core.Path.{_≡_};
 ghost use mathlib.Core.Bool.{true};
 ghost use Prim.Native.Nat.{_^_, _≤_, _<_};
 ghost use lib.ListN.{length};
+ghost use Rattle.limits.specs.Limits.{lastCounter};
 ghost use Rattle.lists.specs.Distinct.{In};
 ghost use Rattle.device.specs.Device.{dev, Shape, devBefore, devAfter};
 ghost use Rattle.rows.specs.Rows.{at, isBound, rowsOf, Flat};
@@ -63,7 +65,7 @@ pub fn release(
     slot: usize,
 ) -> Stepped
     requires { ⌜ Ready geometry (lent (dev (now bytes) (now phys) place) (bufs pool (now nums) (now names) (now dirs))) ⌝ }
-    requires { ⌜ (slot < pool .held) × (In slot (queueOf pool) → ⊥) × (pool .counter < 2 ^ 63) ⌝ }
+    requires { ⌜ (slot < pool .held) × (In slot (queueOf pool) → ⊥) × (pool .counter < lastCounter) ⌝ }
     ensures { λ r. ⌜
         after bytes phys (r .place) nums names dirs (r .pool)
         ≡ flatW (releaseM (now (plan .entry)) geometry slot (viewW (before bytes phys place nums names dirs pool))) ⌝ }
@@ -121,7 +123,7 @@ pub fn sync_row(
     let n = pool.held;
     let header = row_header(nums, names, cap, n, i);
     let k = header.path_len;
-    let from = i * 480;
+    let from = i * MAX_PATH;
     let put = places::put_header(
         bytes,
         phys,

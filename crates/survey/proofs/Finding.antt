@@ -11,15 +11,16 @@ use lib.Dec.{eqb, leb}
 use borrow.Author.Tests.{eqb-true, le-leb, lt-leb}
 use lib.ListN.{length, getD, set, take, drop, replicate, length-set, length-append, length-replicate, drop-of-length-le, List·getD-eq-default}
 use lib.Seq.{take-suc, drop-cons, length-take-le, getD-take, getD-set-other, set-append-seam, set-append-left}
+use Rattle.limits.specs.Limits.{maxPath}
 use Rattle.lists.specs.Blocks.{pad, snoc-pad}
 use Rattle.path.specs.Path.{samePath, keyOf}
 use Rattle.path.specs.Theorems.{key-same}
 use Rattle.rows.specs.Rows.{Row, unbound, bound, none, at, isBound, pathOf, genOf, holds, find, rowsOf, Flat}
-use Rattle.rows.specs.Laws.{name-part}
-use Rattle.rows.specs.Find.{holds-unbound, holds-path, find-holds, find-le, find-is, find-absent}
+use Rattle.rows.proofs.InBuffers.{name-part}
+use Rattle.rows.proofs.Finding.{holds-unbound, holds-path, find-holds, find-le, find-is, find-absent}
 use Rattle.survey.specs.Survey.{Survey, survey, claimRow, rival, meet, step, scan}
 use Rattle.survey.specs.Claims.{rowOf, claimOf, losersOf, left, live, beaten, loserOf}
-use Rattle.survey.specs.Losers.{Alike, held-inside, snoc-alike, scan-alike}
+use Rattle.survey.proofs.Losers.{Alike, held-inside, snoc-alike, scan-alike}
 
 -- ---- rows with marks
 
@@ -89,15 +90,15 @@ module _ (cap m : ℕ) (l s : List ℕ) (F : Flat cap m l s) (p : List ℕ) (key
   stands-unbound e b = rw e (sym (holds-unbound p (at (rowsOf l s m) j) (sym b)))
 
   module _ (k : ℕ) (e : x ≡ 0) (b : true ≡ isBound (at (rowsOf l s m) j)) (n : k ≡ length (pathOf (at (rowsOf l s m) j))) where
-    pub stands-same : samePath (take (j * 480 + k - j * 480) (drop (j * 480) s)) p ≡ holds p (left x (at (rowsOf l s m) j))
+    pub stands-same : samePath (take (j * maxPath + k - j * maxPath) (drop (j * maxPath) s)) p ≡ holds p (left x (at (rowsOf l s m) j))
     unfolding left
     stands-same = rw e (ap (λ (q : List ℕ). samePath q p) (name-part cap m l s F j h k n .1) ∙ sym (holds-path p (at (rowsOf l s m) j) (sym b)))
 
-    pub stands-other : (keyOf (take (j * 480 + k - j * 480) (drop (j * 480) s)) ≡ key → ⊥) → false ≡ holds p (left x (at (rowsOf l s m) j))
-    stands-other ne = go (samePath (take (j * 480 + k - j * 480) (drop (j * 480) s)) p) refl ∙ stands-same
+    pub stands-other : (keyOf (take (j * maxPath + k - j * maxPath) (drop (j * maxPath) s)) ≡ key → ⊥) → false ≡ holds p (left x (at (rowsOf l s m) j))
+    stands-other ne = go (samePath (take (j * maxPath + k - j * maxPath) (drop (j * maxPath) s)) p) refl ∙ stands-same
       where
-        go : (t : Bool) → samePath (take (j * 480 + k - j * 480) (drop (j * 480) s)) p ≡ t → false ≡ t
-        go true q = absurd (ne (key-same (take (j * 480 + k - j * 480) (drop (j * 480) s)) p q ∙ sym kp))
+        go : (t : Bool) → samePath (take (j * maxPath + k - j * maxPath) (drop (j * maxPath) s)) p ≡ t → false ≡ t
+        go true q = absurd (ne (key-same (take (j * maxPath + k - j * maxPath) (drop (j * maxPath) s)) p q ∙ sym kp))
         go false q = refl
 
 -- ---- the holder among the rows before i

@@ -10,20 +10,21 @@ use native.Mathlib.Omega.{arith}
 use lib.Dec.{eqb, ltb}
 use lib.ListN.{length, set, take, drop, replicate, length-take, length-replicate}
 use lib.Seq.{set-at, take-suc, take-all, take-append-le, length-take-le}
+use Rattle.limits.specs.Limits.{maxPath}
 use Rattle.le.specs.Le.{field, laid}
-use Rattle.le.specs.Parts.{laid-whole, length-laid}
+use Rattle.le.proofs.Parts.{laid-whole, length-laid}
 use Rattle.header.specs.declared.Header.{Header}
 use Rattle.header.specs.declared.Decoded.{Decoded}
 use Rattle.header.specs.declared.Decoded.the-variants.{Absent, Found}
 use Rattle.header.specs.Block.{pathOf, decoded}
-use Rattle.header.specs.Laws.{Passed, short-absent, found}
+use Rattle.header.proofs.BlockLaws.{Passed, short-absent, found}
 use Rattle.device.specs.declared.Place.{Place}
 use Rattle.device.specs.declared.Geometry.{Geometry}
 use Rattle.device.specs.declared.Got.{Got}
 use Rattle.device.specs.Device.{Dev, dev, turn, after, seen, given, share, read, Read, readM, headerReadM, physOf}
 use Rattle.device.specs.Slots.{share-le}
 use Rattle.rows.specs.Rows.{Row, none, at, rowsOf, flatNums, flatNames, Flat}
-use Rattle.rows.specs.Laws.{length-rows, rows-grow, rows-shrink}
+use Rattle.rows.proofs.InBuffers.{length-rows, rows-grow, rows-shrink}
 use Rattle.survey.specs.declared.Staged.{Staged}
 use Rattle.survey.specs.Heads.{Head, absent, idle, claim, saidOf, headOf, Reads, behind, looked, readsM}
 use Rattle.survey.specs.Survey.{claimRow}
@@ -145,10 +146,10 @@ module _ (b : List ℕ) (n : ℕ) (r : Decoded) (e : r ≡ decoded b n) where
     len-is : h .«path_len» ≡ field b 8 4
     len-is = ap (λ (x : Header). x .«path_len») (passed .fields)
 
-    pub path-fits : h .«path_len» ≤ 480
+    pub path-fits : h .«path_len» ≤ maxPath
     path-fits = rw len-is (passed .path-fits)
 
-    pub part-short : length (take (32 + h .«path_len» - 32) (drop 32 b)) ≤ 480
+    pub part-short : length (take (32 + h .«path_len» - 32) (drop 32 b)) ≤ maxPath
     part-short = simp length-take (omega (arith, path-fits))
 
     path-is : pathOf b ≡ take (32 + h .«path_len» - 32) (drop 32 b)

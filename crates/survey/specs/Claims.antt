@@ -4,6 +4,7 @@ use mathlib.Core.Bool.{cond}
 use mathlib.Core.List.{List, [], _∷_, map}
 use lib.Dec.{eqb, leb}
 use lib.ListN.{length, take, drop}
+use Rattle.limits.specs.Limits.{lastCounter}
 use Rattle.rows.specs.Rows.{Row, unbound, bound, none, at, find}
 use Rattle.survey.specs.Heads.{Head, absent, idle, claim}
 use Rattle.survey.specs.Survey.{survey, claimRow, scan}
@@ -23,7 +24,7 @@ claimOf (bound p f) = claim p (f .gen) (f .len)
 
 -- What a generation asks of the counter: one more. Above 2^63 there is no generation to give (9), and one more than 2^64 - 1 must not wrap.
 abbrev pub asksFor : ℕ → ℕ
-asksFor g = suc (min g (2 ^ 63))
+asksFor g = suc (min g lastCounter)
 
 unfoldable pub asks : Head → ℕ
 asks absent = 0

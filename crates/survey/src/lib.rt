@@ -5,6 +5,8 @@ use device::Geometry;
 use device::Place;
 use header::Decoded;
 use header::Header;
+use limits::LAST_COUNTER;
+use limits::MAX_PATH;
 ghost use mathlib.Core.Path.{_≡_};
 ghost use mathlib.Core.Bool.{true, false, cond, _&&_};
 ghost use mathlib.Core.List.{[], _∷_, _++_, map};
@@ -17,9 +19,6 @@ ghost use Rattle.path.specs.Path.{keyOf};
 ghost use Rattle.rows.specs.Rows.{at, pathOf, holds, find, rowsOf, Flat};
 ghost use Rattle.survey.specs.Heads.{devBefore, headOf, looked, readsM};
 ghost use Rattle.survey.specs.Claims.{rowOf, asksFor, asks, askedOf, losersOf, left, live, loserOf};
-
-// The highest counter.
-const HIGHEST: u64 = 0x8000_0000_0000_0000;
 
 // The place after the reads, whether one failed, and what the valid headers ask of the counter.
 pub struct Staged {
@@ -178,11 +177,11 @@ fn is_claim(in_use: bool, path_len: usize) -> bool
 fn raised(asked: u64, generation: u64) -> u64
     ensures { λ r. ⌜ r ≡ max asked (asksFor generation) ⌝ }
 {
-    if asked > HIGHEST {
+    if asked > LAST_COUNTER {
         return asked;
     }
-    if generation >= HIGHEST {
-        return HIGHEST + 1;
+    if generation >= LAST_COUNTER {
+        return LAST_COUNTER + 1;
     }
     if generation < asked {
         return asked;
@@ -246,7 +245,7 @@ fn loser(nums: &[u64], names: &[u8], cap: usize, m: usize, lost: &[u8], i: usize
 {
     if rows::is_bound(nums, names, cap, m, i) {
         let k = rows::path_len(nums, names, cap, m, i);
-        let from = i * 480;
+        let from = i * MAX_PATH;
         let j = holder(nums, names, cap, m, lost, i, &names[from..from + k]);
         if j < i {
             let mine = rows::row_generation(nums, names, cap, m, i);
@@ -307,7 +306,7 @@ fn stands(
     }
     if rows::is_bound(nums, names, cap, m, j) {
         let k = rows::path_len(nums, names, cap, m, j);
-        let from = j * 480;
+        let from = j * MAX_PATH;
         let to = from + k;
         if path::key(&names[from..to]) != key {
             return false;

@@ -8,15 +8,16 @@ use native.Mathlib.Omega.{arith}
 use native.Mathlib.Decide.{ℕ-discrete}
 use lib.ListN.{length, set, length-set}
 use lib.Seq.{getD-set-same, getD-set-other}
+use Rattle.limits.specs.Limits.{maxPath}
 use Rattle.lists.specs.Distinct.{In}
 use Rattle.text.specs.Text.{isText}
 use Rattle.text.specs.Text as Text
 use Rattle.text.specs.Grammar.{text-complete}
 use Rattle.path.specs.Path.{components}
 use Rattle.rows.specs.Rows.{Row, unbound, none, at, isBound, pathOf, genOf, resized, rowsOf, Flat}
-use Rattle.rows.specs.Laws.{resized-bound, resized-path, resized-gen}
+use Rattle.rows.proofs.InBuffers.{resized-bound, resized-path, resized-gen}
 use Rattle.table.specs.State.{State, Directories, Valid, Bufs, bufs, view, poolOf, flat, IsPool}
-use Rattle.table.specs.Laws.{pool-canon, pool-dirs, together}
+use Rattle.table.specs.InBuffers.{pool-canon, pool-dirs, together}
 
 -- Row i becomes r.
 unfoldable pub withRow : ℕ → Row → State → State
@@ -29,7 +30,7 @@ withDirs ds s = record { chosen = s .chosen; rows = s .rows; dirs = ds; queue = 
 -- r may stand in row i: what 01 asks of a row, and, where it is bound, that the slot is not free and no other row has its path.
 pub record Admits (s : State) (i : ℕ) (r : Row) : Type 0 where
   pub text : isText (pathOf r) ≡ true
-  pub short : length (pathOf r) ≤ 480
+  pub short : length (pathOf r) ≤ maxPath
   pub young : genOf r < s .counter
   pub apart : isBound r ≡ true → (j : ℕ) → j ≢ i → isBound (at (s .rows) j) ≡ true → components (pathOf r) ≡ components (pathOf (at (s .rows) j)) → ⊥
   pub idle : isBound r ≡ true → In i (s .queue) → ⊥
@@ -84,7 +85,7 @@ module _ (s : State) (i : ℕ) (r : Row) (ok : Valid s) (h : i < length (s .rows
         slots =
             record {
               text = all-rows (λ x. isText (pathOf x) ≡ true) (a .text) (ok .slots .text);
-              short = all-rows (λ x. length (pathOf x) ≤ 480) (a .short) (ok .slots .short);
+              short = all-rows (λ x. length (pathOf x) ≤ maxPath) (a .short) (ok .slots .short);
               apart = two-rows;
               young = all-rows (λ x. genOf x < s .counter) (a .young) (ok .slots .young);
             };

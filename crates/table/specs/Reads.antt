@@ -5,22 +5,23 @@ use mathlib.Core.List.{List, [], _∷_}
 use mathlib.Core.Bool.{Bool, true, false}
 use native.Mathlib.Omega.{arith}
 use lib.ListN.{length, getD, List·getD-eq-default}
+use Rattle.limits.specs.Limits.{maxPath, rowWidth, dirWidth, lastCounter}
 use Rattle.lists.specs.Blocks.{pad, cat, length-pad, getD-pad, length-cat, flat-at}
 use Rattle.lists.specs.Zeros.{rest-zero}
 use Rattle.rows.specs.Rows.{Row, unbound, bound, none, at, pathOf, genOf, markOf, rowNums, rowName, rowsOf, flatNums, flatNames, Flat}
-use Rattle.rows.specs.Laws.{nums-wide, name-wide, length-rows, nums-long, names-long, num-at}
+use Rattle.rows.proofs.InBuffers.{nums-wide, name-wide, length-rows, nums-long, names-long, num-at}
 use Rattle.dirs.specs.Rows.{dirRow, dirsOf, flatDirs, FlatDirs}
-use Rattle.dirs.specs.RowLaws.{row-wide, length-dirs, dirs-long}
+use Rattle.dirs.proofs.InBuffer.{row-wide, length-dirs, dirs-long}
 use Rattle.table.specs.declared.Pool.{Pool}
 use Rattle.table.specs.State.{Bufs, queueOf, view, poolOf, flat, IsPool}
-use Rattle.table.specs.Laws.{queue-few, pool-canon, pool-rows, pool-dirs}
+use Rattle.table.specs.InBuffers.{queue-few, pool-canon, pool-rows, pool-dirs}
 
 -- The mark of row i, and its path's length.
 abbrev pub markAt : Bufs → ℕ → ℕ
-markAt b i = getD (b .nums) (i * 4) 0
+markAt b i = getD (b .nums) (i * rowWidth) 0
 
 abbrev pub pathLenAt : Bufs → ℕ → ℕ
-pathLenAt b i = getD (b .nums) (i * 4 + 1) 0
+pathLenAt b i = getD (b .nums) (i * rowWidth + 1) 0
 
 pub record Reads (b : Bufs) : Type 0 where
   -- the counts
@@ -30,23 +31,23 @@ pub record Reads (b : Bufs) : Type 0 where
   pub dirs : b .pool .dirs ≤ b .pool .chosen .«dir_rows»
   pub free : b .pool .free ≤ b .pool .held
   pub begun : 1 ≤ b .pool .counter
-  pub counted : b .pool .counter ≤ 2 ^ 63
+  pub counted : b .pool .counter ≤ lastCounter
   -- the lengths of the buffers
-  pub nums-long : length (b .nums) ≡ b .pool .chosen .rows * 4
-  pub names-long : length (b .names) ≡ b .pool .chosen .rows * 480
-  pub dirs-long : length (b .dirs) ≡ b .pool .chosen .«dir_rows» * 482
+  pub nums-long : length (b .nums) ≡ b .pool .chosen .rows * rowWidth
+  pub names-long : length (b .names) ≡ b .pool .chosen .rows * maxPath
+  pub dirs-long : length (b .dirs) ≡ b .pool .chosen .«dir_rows» * dirWidth
   pub queue-long : length (b .pool .queue) ≡ 64
   -- what lies past the counts is zero
-  pub nums-rest : (j : ℕ) → b .pool .held * 4 ≤ j → getD (b .nums) j 0 ≡ 0
-  pub names-rest : (j : ℕ) → b .pool .held * 480 ≤ j → getD (b .names) j 0 ≡ 0
-  pub dirs-rest : (j : ℕ) → b .pool .dirs * 482 ≤ j → getD (b .dirs) j 0 ≡ 0
+  pub nums-rest : (j : ℕ) → b .pool .held * rowWidth ≤ j → getD (b .nums) j 0 ≡ 0
+  pub names-rest : (j : ℕ) → b .pool .held * maxPath ≤ j → getD (b .names) j 0 ≡ 0
+  pub dirs-rest : (j : ℕ) → b .pool .dirs * dirWidth ≤ j → getD (b .dirs) j 0 ≡ 0
   pub queue-rest : (j : ℕ) → b .pool .free ≤ j → getD (b .pool .queue) j 0 ≡ 0
   -- marks are 0 (unbound), 1 (clean) and 2 (dirty); an unbound row is zero but for its generation; a name is zero behind the path
   pub marks : (i : ℕ) → i < b .pool .held → markAt b i ≤ 2
-  pub bare : (i : ℕ) → i < b .pool .held → markAt b i ≡ 0 → (pathLenAt b i ≡ 0) × (getD (b .nums) (i * 4 + 2) 0 ≡ 0)
-  pub short : (i : ℕ) → i < b .pool .held → pathLenAt b i ≤ 480
-  pub fill : (i j : ℕ) → i < b .pool .held → pathLenAt b i ≤ j → j < 480 → getD (b .names) (i * 480 + j) 0 ≡ 0
-  pub young : (i : ℕ) → i < b .pool .held → getD (b .nums) (i * 4 + 3) 0 < b .pool .counter
+  pub bare : (i : ℕ) → i < b .pool .held → markAt b i ≡ 0 → (pathLenAt b i ≡ 0) × (getD (b .nums) (i * rowWidth + 2) 0 ≡ 0)
+  pub short : (i : ℕ) → i < b .pool .held → pathLenAt b i ≤ maxPath
+  pub fill : (i j : ℕ) → i < b .pool .held → pathLenAt b i ≤ j → j < maxPath → getD (b .names) (i * maxPath + j) 0 ≡ 0
+  pub young : (i : ℕ) → i < b .pool .held → getD (b .nums) (i * rowWidth + 3) 0 < b .pool .counter
 
 -- ---- every pool reads so
 
@@ -85,25 +86,25 @@ module _ (b : Bufs) (P : IsPool b) where
   G : FlatDirs (b .pool .chosen .«dir_rows») (b .pool .dirs) (b .dirs)
   G = pool-dirs b P
 
-  num : (i k : ℕ) → i < b .pool .held → k < 4 → getD (b .nums) (i * 4 + k) 0 ≡ getD (rowNums (at (rowsOf (b .nums) (b .names) (b .pool .held)) i)) k 0
+  num : (i k : ℕ) → i < b .pool .held → k < 4 → getD (b .nums) (i * rowWidth + k) 0 ≡ getD (rowNums (at (rowsOf (b .nums) (b .names) (b .pool .held)) i)) k 0
   num i k h q = num-at (b .pool .chosen .rows) (b .pool .held) (b .nums) (b .names) F i h k q
 
   mark : (i : ℕ) → i < b .pool .held → markAt b i ≡ getD (rowNums (at (rowsOf (b .nums) (b .names) (b .pool .held)) i)) 0 0
-  mark i h = let z : i * 4 ≡ i * 4 + 0 = omega arith in ap (λ (k : ℕ). getD (b .nums) k 0) z ∙ num i 0 h (omega arith)
+  mark i h = let z : i * rowWidth ≡ i * rowWidth + 0 = omega arith in ap (λ (k : ℕ). getD (b .nums) k 0) z ∙ num i 0 h (omega arith)
 
   path-len : (i : ℕ) → i < b .pool .held → pathLenAt b i ≡ length (pathOf (at (rowsOf (b .nums) (b .names) (b .pool .held)) i))
   path-len i h = num i 1 h (omega arith) ∙ row-path (at (rowsOf (b .nums) (b .names) (b .pool .held)) i)
 
-  pad-fill : (p : List ℕ) (j : ℕ) → length p ≤ 480 → length p ≤ j → getD (pad 480 p) j 0 ≡ 0
-  pad-fill p j h k = getD-pad 480 p j h ∙ List·getD-eq-default p 0 k
+  pad-fill : (p : List ℕ) (j : ℕ) → length p ≤ maxPath → length p ≤ j → getD (pad maxPath p) j 0 ≡ 0
+  pad-fill p j h k = getD-pad maxPath p j h ∙ List·getD-eq-default p 0 k
 
-  filled : (i j : ℕ) → i < b .pool .held → pathLenAt b i ≤ j → j < 480 → getD (b .names) (i * 480 + j) 0 ≡ 0
+  filled : (i j : ℕ) → i < b .pool .held → pathLenAt b i ≤ j → j < maxPath → getD (b .names) (i * maxPath + j) 0 ≡ 0
   unfolding flatNames rowName
   filled i j h k q =
       let rs = rowsOf (b .nums) (b .names) (b .pool .held) in
       let n : length rs ≡ b .pool .held = length-rows (b .nums) (b .names) (b .pool .held) in
-      ap (λ (x : List ℕ). getD x (i * 480 + j) 0) (sym (F .names))
-      ∙ flat-at rowName 480 name-wide (b .pool .chosen .rows) rs i j none (omega (arith, F .few)) (omega arith) q
+      ap (λ (x : List ℕ). getD x (i * maxPath + j) 0) (sym (F .names))
+      ∙ flat-at rowName maxPath name-wide (b .pool .chosen .rows) rs i j none (omega (arith, F .few)) (omega arith) q
       ∙ pad-fill (pathOf (at rs i)) j (F .short i) (omega (arith, path-len i h))
 
   free-long : length (queueOf (b .pool)) ≡ b .pool .free
@@ -137,9 +138,9 @@ module _ (b : Bufs) (P : IsPool b) where
         names-long = names-long (b .pool .chosen .rows) (b .pool .held) (b .nums) (b .names) F;
         dirs-long = dirs-long (b .pool .chosen .«dir_rows») (b .pool .dirs) (b .dirs) G;
         queue-long = ap length (sym padded) ∙ length-pad 64 (queueOf (b .pool));
-        nums-rest = rest-zero (b .pool .chosen .rows * 4) (b .pool .held * 4) (cat rowNums rs) (b .nums) (F .nums) (length-cat rowNums 4 nums-wide rs ∙ rw n) (omega (arith, F .few));
-        names-rest = rest-zero (b .pool .chosen .rows * 480) (b .pool .held * 480) (cat rowName rs) (b .names) (F .names) (length-cat rowName 480 name-wide rs ∙ rw n) (omega (arith, F .few));
-        dirs-rest = rest-zero (b .pool .chosen .«dir_rows» * 482) (b .pool .dirs * 482) (cat dirRow ds) (b .dirs) (G .flat) (length-cat dirRow 482 row-wide ds ∙ rw m) (omega (arith, G .few));
+        nums-rest = rest-zero (b .pool .chosen .rows * rowWidth) (b .pool .held * rowWidth) (cat rowNums rs) (b .nums) (F .nums) (length-cat rowNums 4 nums-wide rs ∙ rw n) (omega (arith, F .few));
+        names-rest = rest-zero (b .pool .chosen .rows * maxPath) (b .pool .held * maxPath) (cat rowName rs) (b .names) (F .names) (length-cat rowName maxPath name-wide rs ∙ rw n) (omega (arith, F .few));
+        dirs-rest = rest-zero (b .pool .chosen .«dir_rows» * dirWidth) (b .pool .dirs * dirWidth) (cat dirRow ds) (b .dirs) (G .flat) (length-cat dirRow dirWidth row-wide ds ∙ rw m) (omega (arith, G .few));
         queue-rest = rest-zero 64 (b .pool .free) (queueOf (b .pool)) (b .pool .queue) padded free-long (omega (arith, free-few, F .few, P .valid .counts .small));
         marks = λ i h. omega (arith, mark i h, row-marks (at rs i));
         bare = λ i h e. (num i 1 h (omega arith) ∙ row-bare (at rs i) (sym (mark i h) ∙ e) .0, num i 2 h (omega arith) ∙ row-bare (at rs i) (sym (mark i h) ∙ e) .1);

@@ -5,6 +5,7 @@ use mathlib.Core.List.{List}
 use mathlib.Core.Bool.{true, false}
 use lib.ListN.{length, take}
 use denote.Ref.{now}
+use Rattle.limits.specs.Limits.{maxPath, lastCounter}
 use Rattle.lists.specs.Lends.{Run}
 use Rattle.lists.specs.Blocks.{pad}
 use Rattle.lists.specs.Distinct.{In, Distinct}
@@ -37,13 +38,13 @@ pub record Counts (c : Chosen) (held dirs counter : ℕ) : Type 0 where
   pub dirs-few : dirs ≤ c .«dir_rows»
   -- "counter 1 to 2^63"
   pub begun : 1 ≤ counter
-  pub counted : counter ≤ 2 ^ 63
+  pub counted : counter ≤ lastCounter
 
 -- The slot rows. That unbound slots are clean with length 0 is part of what a row is. A row past the last is unbound under generation 0.
 pub record Slots (rs : List Row) (counter : ℕ) : Type 0 where
   -- "bound paths are text of at most 480 bytes, no two equal"; the path of an unbound row is empty
   pub text : (i : ℕ) → isText (pathOf (at rs i)) ≡ true
-  pub short : (i : ℕ) → length (pathOf (at rs i)) ≤ 480
+  pub short : (i : ℕ) → length (pathOf (at rs i)) ≤ maxPath
   pub apart : (i j : ℕ) → isBound (at rs i) ≡ true → isBound (at rs j) ≡ true → components (pathOf (at rs i)) ≡ components (pathOf (at rs j)) → i ≡ j
   -- "generations below the counter"
   pub young : (i : ℕ) → genOf (at rs i) < counter
@@ -56,7 +57,7 @@ pub record Waiting (q : List ℕ) (rs : List Row) : Type 0 where
 
 -- "directories are normal, distinct, and hold every non-empty ancestor of each"; each fits a row
 pub record Directories (ds : List (List ℕ)) : Type 0 where
-  pub short : (d : List ℕ) → In d ds → length d ≤ 480
+  pub short : (d : List ℕ) → In d ds → length d ≤ maxPath
   pub dirs : Dirs ds
 
 pub record Valid (s : State) : Type 0 where

@@ -3,6 +3,7 @@
 // room, a free slot, or a generation left.
 ghost use mathlib.Core.Path.{_≡_};
 ghost use Prim.Native.Nat.{_^_, _<_};
+ghost use Rattle.limits.specs.Limits.{lastCounter};
 ghost use Rattle.table.specs.Queue.{pushed, shifted, popped, ticked};
 
 // What was chosen at mount: how many slot rows and how many directory rows are lent.
@@ -73,7 +74,7 @@ pub fn pop_free(pool: Pool) -> Popped
 
 // The counter's generation is spent: it is the caller's, who has read it from the record.
 pub fn next_generation(pool: Pool) -> Pool
-    requires { ⌜ pool .counter < 2 ^ 63 ⌝ }
+    requires { ⌜ pool .counter < lastCounter ⌝ }
     ensures { λ r. ⌜ r ≡ ticked pool ⌝ }
 {
     let mut r = pool;

@@ -10,20 +10,21 @@ use borrow.Author.Tests.{eq-eqb, ne-eqb}
 use lib.Dec.{eqb}
 use lib.ListN.{length, getD, take, drop, length-append, length-take, drop-of-length-le}
 use lib.Seq.{drop-cons, sets, sets-eq}
+use Rattle.limits.specs.Limits.{dirWidth}
 use Rattle.lists.specs.Blocks.{cat}
 use Rattle.lists.specs.Runs.{range, range-more, range-end}
 use Rattle.le.specs.Le.{le}
-use Rattle.le.specs.Fields.{length-le}
+use Rattle.le.proofs.Fields.{length-le}
 use Rattle.rows.specs.Rows.{Row, at, isBound, pathOf, genOf, lenOf, isDirty, rowsOf}
-use Rattle.rows.specs.Laws.{length-rows}
+use Rattle.rows.proofs.InBuffers.{length-rows}
 use Rattle.dirs.specs.Rows.{dirsOf}
-use Rattle.dirs.specs.RowLaws.{length-dirs, dirs-long}
+use Rattle.dirs.proofs.InBuffer.{length-dirs, dirs-long}
 use Rattle.table.specs.State.{Bufs, queueOf, view, poolOf, flat, IsPool}
-use Rattle.table.specs.Laws.{queue-fits, pool-dirs}
+use Rattle.table.specs.InBuffers.{queue-fits, pool-dirs}
 use Rattle.admit.specs.Test.{isPool}
 use Rattle.order.specs.Spans.{spelled}
 use Rattle.writer.specs.Writer.{Shown, shown, pours, runOf}
-use Rattle.writer.specs.Laws.{pours-none, pours-append, after-pours}
+use Rattle.writer.proofs.InParts.{pours-none, pours-append, after-pours}
 use Rattle.tables.specs.Tables.{isIn, weight, marksOf, marksAt, rowShown, dirsShown, poolShown, recordShown}
 
 -- ---- a byte that is sought
@@ -117,7 +118,7 @@ module _ (b : Bufs) (P : IsPool b) where
   unfolding view
   few-dirs = omega (arith, P .valid .counts .dirs-few, P .valid .counts .dirs-small, length-dirs (b .dirs) (b .pool .dirs))
 
-  pub dirs-fit : b .pool .dirs * 482 ≤ length (b .dirs)
+  pub dirs-fit : b .pool .dirs * dirWidth ≤ length (b .dirs)
   dirs-fit = omega (arith, dirs-long _ _ _ (pool-dirs b P), pool-dirs b P .few)
 
   abbrev queue : List ℕ

@@ -1,10 +1,12 @@
 // The tables that a script ends with (docs/EXPORTS.md): the record with its rows, queue and directories, and the device. They go to the
 // output behind what came before. Any record and any buffers may come: what is no pool is said so, and shows none. Nothing is refused.
 use device::Place;
+use limits::MAX_PATH;
 use table::Pool;
 ghost use mathlib.Core.Path.{_≡_};
 ghost use Prim.Native.Nat.{_+_, _*_, _^_, _≤_, _<_};
 ghost use lib.ListN.{length, drop, replicate};
+ghost use Rattle.limits.specs.Limits.{rowWidth, dirWidth};
 ghost use Rattle.lists.specs.Blocks.{cat};
 ghost use Rattle.lists.specs.Runs.{range};
 ghost use Rattle.lists.specs.Sort.{sort};
@@ -70,7 +72,7 @@ fn put_row(
     let g = rows::row_generation(nums, names, cap, n, i);
     let l = rows::row_len(nums, names, cap, n, i);
     let k = rows::path_len(nums, names, cap, n, i);
-    let from = i * 480;
+    let from = i * MAX_PATH;
     let a = writer::put_le(out, at, 1, m);
     let b = writer::put_le(out, a, 8, g);
     let c = writer::put_le(out, b, 8, l);
@@ -129,7 +131,7 @@ fn no_spans() -> [u32; 256]
 
 // The first m directories, as runs, in order; the cells of spans are for sorting.
 fn put_sorted(dirs: &[u8], m: usize, spans: &mut [u32], out: &mut [u8], at: usize) -> usize
-    requires { ⌜ (m * 482 ≤ length (now dirs)) × (m ≤ 256) × (length (now spans) ≡ m) × (at < 2 ^ 61) ⌝ }
+    requires { ⌜ (m * dirWidth ≤ length (now dirs)) × (m ≤ 256) × (length (now spans) ≡ m) × (at < 2 ^ 61) ⌝ }
     ensures runs { λ r. ⌜ Puts (cat runOf (inOrder (dirsOf (now (dirs .entry)) m))) out at r ⌝ }
     ensures few { λ r. ⌜ r ≤ at + m * 514 ⌝ }
     ensures parts { λ _. ⌜ now (spans .exit) ≡ sort (before (now (dirs .entry))) (dirSpans (dirsOf (now (dirs .entry)) m)) ⌝ }
@@ -141,7 +143,7 @@ fn put_sorted(dirs: &[u8], m: usize, spans: &mut [u32], out: &mut [u8], at: usiz
 
 // The first m directories: their count, and they in order.
 fn put_dirs(dirs: &[u8], m: usize, out: &mut [u8], at: usize) -> usize
-    requires { ⌜ (m * 482 ≤ length (now dirs)) × (m ≤ 256) × (at < 2 ^ 60) ⌝ }
+    requires { ⌜ (m * dirWidth ≤ length (now dirs)) × (m ≤ 256) × (at < 2 ^ 60) ⌝ }
     ensures dirs { λ r. ⌜ Puts (dirsShown (dirsOf (now (dirs .entry)) m)) out at r ⌝ }
     ensures few { λ r. ⌜ r ≤ at + 200000 ⌝ }
 {
@@ -196,7 +198,7 @@ pub fn put_record(
 fn put_lengths(phys: &[u64], out: &mut [u8], at: usize) -> usize
     requires { ⌜ at < 2 ^ 62 ⌝ }
     ensures { λ r. ⌜ Puts (cat (le 4) (now (phys .entry))) out at r ⌝ }
-    ensures few { λ r. ⌜ r ≤ at + length (now (phys .entry)) * 4 ⌝ }
+    ensures few { λ r. ⌜ r ≤ at + length (now (phys .entry)) * rowWidth ⌝ }
 {
     let mut a = at;
     let mut i = 0;

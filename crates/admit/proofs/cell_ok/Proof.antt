@@ -1,7 +1,7 @@
 -- Carried by `cell-out`, `cell-bound` and `cell-last`, a way out each.
 use mathlib.Core.Path.{sym, _∙_}
-use Rattle.rows.specs.Laws.{length-rows}
-use Rattle.admit.proofs.Laws.{cell-out, cell-bound, cell-last}
+use Rattle.rows.proofs.InBuffers.{length-rows}
+use Rattle.admit.proofs.Filters.{cell-out, cell-bound, cell-last}
 use borrow.Author.Needs.{needs}
 use Rattle.admit.proofs.cell_ok.Statement.{statement}
 use Rattle.admit.proofs.cell_ok.Tie as tie

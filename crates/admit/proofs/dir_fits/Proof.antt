@@ -1,5 +1,5 @@
 -- Carried by `fit-long` and `fit-rest`; that the length is two bytes is the buffer's type.
-use Rattle.admit.proofs.Laws.{fit-long, fit-rest}
+use Rattle.admit.proofs.Filters.{fit-long, fit-rest}
 use native.Mathlib.Omega.{arith}
 use borrow.Author.Needs.{needs}
 use Rattle.admit.proofs.dir_fits.Statement.{statement}
@@ -36,7 +36,11 @@ greatest-requires : tie.Need-greatest-requires
 greatest-requires c κs = search needs
 
 returns-2 : tie.Need-returns-2
-returns-2 c = fit-rest (c .before .before .before .before .before .args .dirs .now) (c .before .before .before .before .before .args .j) (λ k. omega (arith, c .before .before .before .before .shared-slice-known .given k)) (c .before .before .before .before .before .pre) _ (c .before .before .before .get-at .ensures) _ (c .before .before .if1 .left) (c .greatest .ensures)
+returns-2 c =
+    let at-start = c .before .before .before .before .before in
+    fit-rest (at-start .args .dirs .now) (at-start .args .j)
+    (λ k. omega (arith, c .before .before .before .before .shared-slice-known .given k)) (at-start .pre) _
+    (c .before .before .before .get-at .ensures) _ (c .before .before .if1 .left) (c .greatest .ensures)
 
 pub dir-fits-spec : {M : Type 1} → statement M
 dir-fits-spec =

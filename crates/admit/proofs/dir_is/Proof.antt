@@ -2,9 +2,9 @@
 use mathlib.Core.Path.{sym, ap, _∙_}
 use lib.ListN.{length}
 use Rattle.lists.specs.Same.{sameBytes}
-use Rattle.dirs.specs.RowLaws.{dir-part, dir-short}
+use Rattle.dirs.proofs.InBuffer.{dir-part, dir-short}
 use Rattle.admit.specs.Keys.{isDir}
-use Rattle.admit.proofs.Laws.{text-other, length-other}
+use Rattle.admit.proofs.Filters.{text-other, length-other}
 use native.Mathlib.Omega.{arith}
 use borrow.Author.Needs.{needs}
 use Rattle.admit.proofs.dir_is.Statement.{statement}
@@ -17,7 +17,9 @@ shared-slice-read-if1 : tie.Need-shared-slice-read-if1
 shared-slice-read-if1 c = search needs
 
 returns : tie.Need-returns
-returns c = text-other _ _ _ _ _ (c .before .before .before .before .before .pre .2) (c .before .before .before .before .before .pre .3) (c .if1 .taken)
+returns c =
+    let at-start = c .before .before .before .before .before in
+    text-other _ _ _ _ _ (at-start .pre .2) (at-start .pre .3) (c .if1 .taken)
 
 dir-len-requires : tie.Need-dir-len-requires
 dir-len-requires c κs = search needs
@@ -32,7 +34,11 @@ add-at : tie.Need-add-at
 add-at c = search needs
 
 add-same-run : tie.Need-add-same-run
-add-same-run c = omega (arith, dir-short (c .before .before .before .before .before .before .before .args .dirs .now) (c .before .before .before .before .before .before .before .args .j))
+add-same-run c = omega (
+  arith,
+  (let at-start = c .before .before .before .before .before .before .before in
+      dir-short (at-start .args .dirs .now) (at-start .args .j)),
+)
 
 sub-same-run : tie.Need-sub-same-run
 sub-same-run c = search needs
@@ -41,14 +47,26 @@ part-same-run-start : tie.Need-part-same-run-start
 part-same-run-start c = search needs
 
 part-same-run-end : tie.Need-part-same-run-end
-part-same-run-end c = omega (arith, dir-short (c .before .before .before .before .before .before .before .args .dirs .now) (c .before .before .before .before .before .before .before .args .j))
+part-same-run-end c = omega (
+  arith,
+  (let at-start = c .before .before .before .before .before .before .before in
+      dir-short (at-start .args .dirs .now) (at-start .args .j)),
+)
 
 same-run-requires : tie.Need-same-run-requires
-same-run-requires c κs = ap length (dir-part (c .before .before .before .before .before .before .before .before .args .dirs .now) (c .before .before .before .before .before .before .before .before .args .j) _ (c .before .before .dir-len .ensures)) ∙ sym (c .before .before .dir-len .ensures) ∙ c .before .if2 .left
+same-run-requires c κs =
+    let at-dir-len = c .before .before in
+    let at-start = at-dir-len .before .before .before .before .before .before in
+    ap length (dir-part (at-start .args .dirs .now) (at-start .args .j) _ (at-dir-len .dir-len .ensures)) ∙ sym
+    (at-dir-len .dir-len .ensures) ∙ c .before .if2 .left
 
 returns-3 : tie.Need-returns-3
 unfolding isDir
-returns-3 c = c .same-run .ensures ∙ ap (λ (x : _). sameBytes x (c .before .before .before .before .before .before .before .before .before .args .p .now)) (dir-part (c .before .before .before .before .before .before .before .before .before .args .dirs .now) (c .before .before .before .before .before .before .before .before .before .args .j) _ (c .before .before .before .dir-len .ensures))
+returns-3 c =
+    let at-dir-len = c .before .before .before in
+    let at-start = at-dir-len .before .before .before .before .before .before in
+    c .same-run .ensures ∙ ap (λ (x : _). sameBytes x (at-start .args .p .now))
+    (dir-part (at-start .args .dirs .now) (at-start .args .j) _ (at-dir-len .dir-len .ensures))
 
 pub dir-is-spec : {M : Type 1} → statement M
 dir-is-spec =

@@ -1,6 +1,6 @@
 -- Carried by `dir-part`: the part lent is what the row spells.
 use mathlib.Core.Path.{ap, _∙_}
-use Rattle.dirs.specs.RowLaws.{dir-part, dir-short}
+use Rattle.dirs.proofs.InBuffer.{dir-part, dir-short}
 use Rattle.path.specs.Path.{textKey}
 use native.Mathlib.Omega.{arith}
 use borrow.Author.Needs.{needs}
@@ -32,7 +32,9 @@ text-key-requires : tie.Need-text-key-requires
 text-key-requires c κs = search needs
 
 returns : tie.Need-returns
-returns c = c .text-key .ensures ∙ ap textKey (dir-part (c .before .before .before .before .args .dirs .now) (c .before .before .before .before .args .j) _ (c .before .before .dir-len .ensures))
+returns c =
+    let at-start = c .before .before .before .before in
+    c .text-key .ensures ∙ ap textKey (dir-part (at-start .args .dirs .now) (at-start .args .j) _ (c .before .before .dir-len .ensures))
 
 pub dir-key-spec : {M : Type 1} → statement M
 dir-key-spec =

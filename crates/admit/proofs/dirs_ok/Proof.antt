@@ -17,7 +17,9 @@ loop-holds : tie.Need-loop-holds Inv-loop μ-loop
 loop-holds c = λ i h. absurd (omega arith)
 
 dir-ok-requires : tie.Need-dir-ok-requires Inv-loop μ-loop
-dir-ok-requires c κs = (c .before .before .before .before .pre .0, c .before .before .before .before .pre .1, omega arith)
+dir-ok-requires c κs =
+    let at-start = c .before .before .before .before in
+    (at-start .pre .0, at-start .pre .1, omega arith)
 
 returns : tie.Need-returns Inv-loop μ-loop
 returns c =

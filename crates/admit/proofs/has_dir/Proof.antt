@@ -17,7 +17,9 @@ loop-holds : tie.Need-loop-holds Inv-loop μ-loop
 loop-holds c = (omega arith, from-start (anyOf (isDir (c .before .before .before .args .dirs .now) (c .before .before .before .args .p .now))) (c .before .before .before .args .m))
 
 dir-is-requires : tie.Need-dir-is-requires Inv-loop μ-loop
-dir-is-requires c κs = (omega arith, omega (arith, c .before .before .before .before .before .pre .1 .room), c .before .before .before .before .before .pre .1 .key (c .before .loop .j) (c .loop-test .taken), c .before .before .before .before .before .pre .2)
+dir-is-requires c κs =
+    let at-start = c .before .before .before .before .before in
+    (omega arith, omega (arith, at-start .pre .1 .room), at-start .pre .1 .key (c .before .loop .j) (c .loop-test .taken), at-start .pre .2)
 
 returns : tie.Need-returns Inv-loop μ-loop
 returns c = sym (c .before .before .before .loop .inv .1 ∙ any-hit _ _ _ (c .before .before .loop-test .taken) (sym (c .before .dir-is .ensures) ∙ c .if1 .taken))

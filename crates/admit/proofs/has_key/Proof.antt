@@ -35,7 +35,13 @@ loop-less c = omega arith
 
 loop-again : tie.Need-loop-again Inv-loop μ-loop
 unfolding isAt
-loop-again c = (omega arith, flag-turn (isAt (c .before .before .before .before .before .args .keys .now) (c .before .before .before .before .before .args .f)) (c .before .before .before .before .before .args .k) (c .before .before .before .loop .j) (c .before .before .before .loop .hit) _ (c .before .before .loop-test .taken) (c .before .before .before .loop .inv .1) (c .struck .ensures))
+loop-again c =
+    let at-loop = c .before .before .before in
+    let at-start = at-loop .before .before in (
+      omega arith,
+      flag-turn (isAt (at-start .args .keys .now) (at-start .args .f)) (at-start .args .k) (at-loop .loop .j)
+          (at-loop .loop .hit) _ (c .before .before .loop-test .taken) (at-loop .loop .inv .1) (c .struck .ensures),
+    )
 
 returns : tie.Need-returns Inv-loop μ-loop
 returns c = flag-end (isAt (c .before .before .before .args .keys .now) (c .before .before .before .args .f)) (c .before .before .before .args .k) (c .before .loop .j) (c .before .loop .hit) (c .loop-test .left) (c .before .loop .inv .1)

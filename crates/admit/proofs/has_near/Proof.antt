@@ -13,7 +13,9 @@ sub-dir-is : tie.Need-sub-dir-is
 sub-dir-is c = omega arith
 
 dir-is-requires : tie.Need-dir-is-requires
-dir-is-requires c κs = (omega arith, omega (arith, c .before .before .before .before .before .pre .1 .room), c .before .before .before .before .before .pre .1 .key _ (omega arith), c .before .text-key .ensures)
+dir-is-requires c κs =
+    let at-start = c .before .before .before .before .before in
+    (omega arith, omega (arith, at-start .pre .1 .room), at-start .pre .1 .key _ (omega arith), c .before .text-key .ensures)
 
 returns : tie.Need-returns
 returns c = sym (any-at _ _ _ (omega arith) (sym (c .before .dir-is .ensures) ∙ c .if2 .taken))
@@ -25,13 +27,17 @@ add-dir-is : tie.Need-add-dir-is
 add-dir-is c = omega arith
 
 dir-is-requires-2 : tie.Need-dir-is-requires-2
-dir-is-requires-2 c κs = (omega arith, omega (arith, c .before .before .before .before .before .before .pre .1 .room), c .before .before .before .before .before .before .pre .1 .key _ (omega arith), c .before .before .text-key .ensures)
+dir-is-requires-2 c κs =
+    let at-start = c .before .before .before .before .before .before in
+    (omega arith, omega (arith, at-start .pre .1 .room), at-start .pre .1 .key _ (omega arith), c .before .before .text-key .ensures)
 
 returns-2 : tie.Need-returns-2
 returns-2 c = sym (any-at _ _ _ (omega arith) (sym (c .before .dir-is2 .ensures) ∙ c .if4 .taken))
 
 has-dir-requires : tie.Need-has-dir-requires
-has-dir-requires c κs = (c .before .before .before .before .before .before .pre .0, c .before .before .before .before .before .before .pre .1, c .before .before .text-key .ensures)
+has-dir-requires c κs =
+    let at-start = c .before .before .before .before .before .before in
+    (at-start .pre .0, at-start .pre .1, c .before .before .text-key .ensures)
 
 returns-3 : tie.Need-returns-3
 returns-3 c = c .has-dir .ensures

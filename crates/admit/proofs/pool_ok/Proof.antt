@@ -3,7 +3,7 @@ use mathlib.Core.Path.{sym, _∙_}
 use borrow.Author.Tests.{not-true, not-false}
 use Rattle.table.specs.State.{bufs}
 use Rattle.admit.specs.Test.{isPool}
-use Rattle.admit.specs.Forms.{sized, fit-rows}
+use Rattle.admit.proofs.FlatForms.{sized, fit-rows}
 use Rattle.admit.proofs.Turns.{and-no, and-on}
 use borrow.Author.Needs.{needs}
 use Rattle.admit.proofs.pool_ok.Statement.{statement}
@@ -34,8 +34,14 @@ returns-3 c =
 
 view-ok-requires : tie.Need-view-ok-requires
 view-ok-requires c κs =
-    let s = sized _ _ _ _ (sym (c .before .before .before .before .before .sizes-ok .ensures) ∙ not-false _ (c .before .before .before .before .if1 .left)) in
-    (s, fit-rows (bufs (c .before .before .before .before .before .before .before .before .before .args .pool) (c .before .before .before .before .before .before .before .before .before .args .nums .now) (c .before .before .before .before .before .before .before .before .before .args .names .now) (c .before .before .before .before .before .before .before .before .before .args .dirs .now)) s (sym (c .before .before .before .rest-ok .ensures) ∙ not-false _ (c .before .before .if2 .left)) (sym (c .before .fits-ok .ensures) ∙ not-false _ (c .if3 .left)))
+    let at-sizes-ok = c .before .before .before .before .before in
+    let at-start = at-sizes-ok .before .before .before .before in
+    let s = sized _ _ _ _ (sym (at-sizes-ok .sizes-ok .ensures) ∙ not-false _ (c .before .before .before .before .if1 .left)) in (
+      s,
+      fit-rows (bufs (at-start .args .pool) (at-start .args .nums .now) (at-start .args .names .now) (at-start .args .dirs .now)) s
+          (sym (c .before .before .before .rest-ok .ensures) ∙ not-false _ (c .before .before .if2 .left))
+          (sym (c .before .fits-ok .ensures) ∙ not-false _ (c .if3 .left)),
+    )
 
 returns-4 : tie.Need-returns-4
 unfolding isPool

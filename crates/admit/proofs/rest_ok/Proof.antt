@@ -1,6 +1,6 @@
 -- Carried by `zero-no`, `zero-yes` and `zero-is`: the greatest is 0 only of zeros.
 use Rattle.admit.specs.Test.{restOk}
-use Rattle.admit.proofs.Laws.{zero-no, zero-yes, zero-is}
+use Rattle.admit.proofs.Filters.{zero-no, zero-yes, zero-is}
 use Rattle.admit.proofs.Turns.{and-no, and-on}
 use borrow.Author.Needs.{needs}
 use Rattle.admit.proofs.rest_ok.Statement.{statement}
@@ -83,8 +83,11 @@ greatest-requires-3 c κs = search needs
 returns-4 : tie.Need-returns-4
 unfolding restOk
 returns-4 c =
-    and-on _ _ _ (zero-yes _ _ (c .before .before .before .before .before .before .before .before .before .before .top .ensures) (c .before .before .before .before .before .before .before .before .before .if1 .left))
-    (and-on _ _ _ (zero-yes _ _ (c .before .before .before .before .before .before .before .greatest .ensures) (c .before .before .before .before .before .before .if2 .left)) (and-on _ _ _ (zero-yes _ _ (c .before .before .before .before .greatest2 .ensures) (c .before .before .before .if3 .left)) (zero-is _ _ (c .greatest3 .ensures))))
+    let at-greatest = c .before .before .before .before .before .before .before in
+    and-on _ _ _ (zero-yes _ _ (at-greatest .before .before .before .top .ensures) (at-greatest .before .before .if1 .left))
+    (and-on _ _ _ (zero-yes _ _ (at-greatest .greatest .ensures) (c .before .before .before .before .before .before .if2 .left))
+    (and-on _ _ _ (zero-yes _ _ (c .before .before .before .before .greatest2 .ensures) (c .before .before .before .if3 .left))
+    (zero-is _ _ (c .greatest3 .ensures))))
 
 pub rest-ok-spec : {M : Type 1} → statement M
 rest-ok-spec =

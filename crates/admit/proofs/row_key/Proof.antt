@@ -1,7 +1,7 @@
 -- Carried by `name-part`: the part lent is the row's path.
 use mathlib.Core.Path.{ap, _∙_}
 use Rattle.path.specs.Path.{keyOf}
-use Rattle.rows.specs.Laws.{row-fits, name-part}
+use Rattle.rows.proofs.InBuffers.{row-fits, name-part}
 use native.Mathlib.Omega.{arith}
 use borrow.Author.Needs.{needs}
 use Rattle.admit.proofs.row_key.Statement.{statement}
@@ -29,7 +29,9 @@ key-requires : tie.Need-key-requires
 key-requires c κs = search needs
 
 returns : tie.Need-returns
-returns c = c .key .ensures ∙ ap keyOf (name-part _ _ _ _ (c .before .before .before .before .before .pre .0) _ (c .before .before .before .before .before .pre .1) _ (c .before .before .path-len .ensures) .1)
+returns c =
+    let at-start = c .before .before .before .before .before in
+    c .key .ensures ∙ ap keyOf (name-part _ _ _ _ (at-start .pre .0) _ (at-start .pre .1) _ (c .before .before .path-len .ensures) .1)
 
 pub row-key-spec : {M : Type 1} → statement M
 row-key-spec =

@@ -34,7 +34,15 @@ loop-less : tie.Need-loop-less Inv-loop μ-loop
 loop-less c = omega arith
 
 loop-again : tie.Need-loop-again Inv-loop μ-loop
-loop-again c = (omega arith, simp length-set (c .before .before .loop .inv .1), keys-more keyOf (λ j. pathOf (at (rowsOf (c .before .before .before .before .before .before .args .nums .now) (c .before .before .before .before .before .before .args .names .now) (c .before .before .before .before .before .before .args .n)) j)) (c .before .before .loop .keys) (c .before .before .loop .i) _ (c .before .before .loop .inv .2) (omega arith) (c .row-key .ensures))
+loop-again c =
+    let at-start = c .before .before .before .before .before .before in (
+      omega arith,
+      simp length-set (c .before .before .loop .inv .1),
+      keys-more keyOf
+          (λ j. pathOf (at (rowsOf (at-start .args .nums .now) (at-start .args .names .now) (at-start .args .n)) j))
+          (c .before .before .loop .keys) (c .before .before .loop .i) _ (c .before .before .loop .inv .2) (omega arith)
+          (c .row-key .ensures),
+    )
 
 same-length : tie.Need-same-length Inv-loop μ-loop
 same-length c = c .before .loop .inv .1

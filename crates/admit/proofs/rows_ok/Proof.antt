@@ -19,7 +19,9 @@ loop-holds : tie.Need-loop-holds Inv-loop μ-loop
 loop-holds c = from-start (allOf (rowOk (c .before .before .before .args .c) (rowsOf (c .before .before .before .args .nums .now) (c .before .before .before .args .names .now) (c .before .before .before .args .n)))) (c .before .before .before .args .n)
 
 row-ok-requires : tie.Need-row-ok-requires Inv-loop μ-loop
-row-ok-requires c κs = (c .before .before .before .before .before .pre .0, c .before .before .before .before .before .pre .1, omega arith)
+row-ok-requires c κs =
+    let at-start = c .before .before .before .before .before in
+    (at-start .pre .0, at-start .pre .1, omega arith)
 
 returns : tie.Need-returns Inv-loop μ-loop
 returns c = sym (c .before .before .before .loop .inv ∙ all-not _ _ _ (omega arith) (sym (c .before .row-ok .ensures) ∙ not-true _ (c .if1 .taken)))

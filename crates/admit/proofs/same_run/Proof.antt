@@ -34,10 +34,19 @@ loop-less : tie.Need-loop-less Inv-loop μ-loop
 loop-less c = omega arith
 
 loop-again : tie.Need-loop-again Inv-loop μ-loop
-loop-again c = (omega arith, same-turn (c .before .before .before .before .before .before .before .args .a .now) (c .before .before .before .before .before .before .before .args .b .now) (c .before .before .before .before .loop .i) (c .before .before .before .before .loop .same) _ (omega arith) (omega arith) (c .before .before .before .before .loop .inv .1) (c .still .ensures))
+loop-again c =
+    let at-loop = c .before .before .before .before in
+    let at-start = at-loop .before .before .before in (
+      omega arith,
+      same-turn (at-start .args .a .now) (at-start .args .b .now) (at-loop .loop .i) (at-loop .loop .same) _ (omega arith)
+          (omega arith) (at-loop .loop .inv .1) (c .still .ensures),
+    )
 
 returns : tie.Need-returns Inv-loop μ-loop
-returns c = same-end (c .before .before .before .before .args .a .now) (c .before .before .before .before .args .b .now) (c .before .loop .i) (c .before .loop .same) (omega arith) (omega arith) (c .before .loop .inv .1)
+returns c =
+    let at-start = c .before .before .before .before in
+    same-end (at-start .args .a .now) (at-start .args .b .now) (c .before .loop .i) (c .before .loop .same) (omega arith) (omega arith)
+    (c .before .loop .inv .1)
 
 pub same-run-spec : {M : Type 1} → statement M
 same-run-spec =

@@ -2,7 +2,7 @@
 use mathlib.Core.Path.{sym, ap, _∙_}
 use Rattle.path.specs.Path.{textKey}
 use borrow.Author.Tests.{not-true}
-use Rattle.admit.proofs.Laws.{none-before, keys-fewer}
+use Rattle.admit.proofs.Filters.{none-before, keys-fewer}
 use native.Mathlib.Omega.{arith}
 use borrow.Author.Needs.{needs}
 use Rattle.admit.proofs.seen_before.Statement.{statement}
@@ -18,7 +18,10 @@ has-key-requires : tie.Need-has-key-requires
 has-key-requires c κs = search needs
 
 returns : tie.Need-returns
-returns c = none-before _ _ _ _ _ (c .before .before .before .before .before .before .pre .1) (c .before .before .before .before .before .before .pre .2) (c .before .before .before .before .before .before .pre .3) (sym (c .before .has-key .ensures) ∙ not-true _ (c .if1 .taken))
+returns c =
+    let at-start = c .before .before .before .before .before .before in
+    none-before _ _ _ _ _ (at-start .pre .1) (at-start .pre .2) (at-start .pre .3)
+    (sym (c .before .has-key .ensures) ∙ not-true _ (c .if1 .taken))
 
 mul-has-dir : tie.Need-mul-has-dir
 mul-has-dir c = search needs
@@ -27,7 +30,12 @@ shared-slice-read-has-dir : tie.Need-shared-slice-read-has-dir
 shared-slice-read-has-dir c = search needs
 
 has-dir-requires : tie.Need-has-dir-requires
-has-dir-requires c κs = (omega arith, keys-fewer _ _ _ _ _ (c .before .before .before .before .before .before .before .pre .1) (omega arith), c .before .before .before .before .before .before .before .pre .1 .key _ (c .before .before .before .before .before .before .before .pre .2) ∙ ap textKey (sym (c .before .before .before .before .before .before .before .pre .3)))
+has-dir-requires c κs =
+    let at-start = c .before .before .before .before .before .before .before in (
+      omega arith,
+      keys-fewer _ _ _ _ _ (at-start .pre .1) (omega arith),
+      at-start .pre .1 .key _ (at-start .pre .2) ∙ ap textKey (sym (at-start .pre .3)),
+    )
 
 returns-2 : tie.Need-returns-2
 returns-2 c = search needs

@@ -1,8 +1,8 @@
 -- The fewest digits are the decimal: `number-put`.
-use Rattle.answers.specs.Laws.{fewest-few}
+use Rattle.answers.proofs.Digits.{fewest-few}
 use native.Mathlib.Omega.{arith}
-use Rattle.writer.specs.Laws.{after-pours}
-use Rattle.answers.proofs.Laws.{number-put}
+use Rattle.writer.proofs.InParts.{after-pours}
+use Rattle.answers.proofs.Ways.{number-put}
 use borrow.Author.Needs.{needs}
 use Rattle.answers.proofs.put_number.Statement.{statement}
 use Rattle.answers.proofs.put_number.Tie as tie

@@ -1,5 +1,5 @@
 -- One law for each way out: `end-no`, `end-ok`.
-use Rattle.answers.proofs.Laws.{end-no, end-ok}
+use Rattle.answers.proofs.Ways.{end-no, end-ok}
 use borrow.Author.Needs.{needs}
 use Rattle.answers.proofs.say_end.Statement.{statement}
 use Rattle.answers.proofs.say_end.Tie as tie

@@ -1,7 +1,7 @@
 -- Three parts in a row: `no-said`.
-use Rattle.writer.specs.Laws.{after-pours}
-use Rattle.answers.specs.Laws.{spaced-few}
-use Rattle.answers.proofs.Laws.{no-said}
+use Rattle.writer.proofs.InParts.{after-pours}
+use Rattle.answers.proofs.Digits.{spaced-few}
+use Rattle.answers.proofs.Ways.{no-said}
 use native.Mathlib.Omega.{arith}
 use borrow.Author.Needs.{needs}
 use Rattle.answers.proofs.say_no.Statement.{statement}

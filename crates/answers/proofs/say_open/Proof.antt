@@ -1,7 +1,7 @@
 -- One law for each way out: `open-no`, `open-ok` with `made-said`.
-use Rattle.writer.specs.Laws.{after-pours}
-use Rattle.answers.specs.Laws.{spaced-few}
-use Rattle.answers.proofs.Laws.{made-said, open-no, open-ok}
+use Rattle.writer.proofs.InParts.{after-pours}
+use Rattle.answers.proofs.Digits.{spaced-few}
+use Rattle.answers.proofs.Ways.{made-said, open-no, open-ok}
 use native.Mathlib.Omega.{arith}
 use borrow.Author.Needs.{needs}
 use Rattle.answers.proofs.say_open.Statement.{statement}

@@ -1,5 +1,5 @@
 -- Put out from the start on.
-use Rattle.answers.specs.Laws.{whole}
+use Rattle.answers.proofs.Digits.{whole}
 use borrow.Author.Needs.{needs}
 use Rattle.answers.proofs.say_what.Statement.{statement}
 use Rattle.answers.proofs.say_what.Tie as tie

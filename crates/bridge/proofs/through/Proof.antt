@@ -42,6 +42,7 @@ use denote.Triple.Spec.{Meets, tripleOf}
 use denote.Triple.Table.{entered, cited}
 use denote.Triple.Walked.{needs, Stays, stay-dropped, gave-slice, walkOf, goes-dropped, goes-gave-slice, walked, walk-meets}
 use denote.Exit.{yes}
+use Rattle.limits.specs.Limits.{rowWidth}
 use Rattle.walk.proofs.Calls.{ty, calls-to, a-struct}
 use Rattle.walk.proofs.Facts.{ends, heard-both}
 use Rattle.walk.proofs.Lend.{anew, share, unshare}
@@ -150,7 +151,7 @@ module _ {M : Type 1} (𝓤 : URA M) (H : Heap 𝓤) (A : Atoms 𝓤) (W : Given
 
   -- how many rows there are
   abbrev k : ℕ
-  k = length (nums .now) / 4
+  k = length (nums .now) / rowWidth
 
   -- a reference to a local, or to the first of its elements
   abbrev to : {X : Type 0} → ℕ → ℕ → X → RefT X

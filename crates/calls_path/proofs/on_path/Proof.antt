@@ -10,55 +10,112 @@ use Rattle.calls_path.proofs.on_path.Tie as tie
 
 open-write-requires : tie.Need-open-write-requires
 unfolding takesOf
-open-write-requires c κs = ready _ _ _ _ _ _ (c .before .before .before .before .before .before .before .before .before .before .before .before .before .before .before .before .before .pre .0) (c .before .before .before .before .before .before .call .given .1) refl
+open-write-requires c κs =
+    let at-call = c .before .before .before .before .before .before in
+    let after-start = at-call .before .before .before .before .before .before .before in
+    let at-start = after-start .before .before .before .before in
+    ready _ _ _ _ _ _ (at-start .pre .0) (at-call .call .given .1) refl
 
 returns : tie.Need-returns
 unfolding innerM
-returns c = arm _ _ _ _ _ _ _ _ _ (c .before .before .before .before .before .before .before .before .before .before .before .before .before .before .before .before .before .before .before .call .given .1) (ap (opened (c .before .before .before .before .before .before .before .before .before .before .before .before .before .before .before .before .before .before .before .before .before .before .before .before .before .before .before .before .before .before .args .buf .now)) (c .before .before .before .before .before .before .before .before .before .before .before .before .open-write .ensures))
+returns c =
+    let after-open-write = c .before .before .before .before .before .before .before in
+    let at-open-write = after-open-write .before .before .before .before .before in
+    let at-call = at-open-write .before .before .before .before .before .before .before in
+    let after-start = at-call .before .before .before .before .before .before .before in
+    let at-start = after-start .before .before .before .before in
+    arm _ _ _ _ _ _ _ _ _ (at-call .call .given .1) (ap (opened (at-start .args .buf .now)) (at-open-write .open-write .ensures))
 
 open-read-requires : tie.Need-open-read-requires
 unfolding takesOf
-open-read-requires c κs = ready _ _ _ _ _ _ (c .before .before .before .before .before .before .before .before .before .before .before .before .before .before .pre .0) (c .before .before .before .enum-told .given .1) refl .pool
+open-read-requires c κs =
+    let after-start = c .before .before .before .before .before .before .before in
+    let at-start = after-start .before .before .before .before .before .before .before in
+    ready _ _ _ _ _ _ (at-start .pre .0) (c .before .before .before .enum-told .given .1) refl .pool
 
 returns-2 : tie.Need-returns-2
 unfolding innerM
-returns-2 c = arm _ _ _ _ _ _ _ _ _ (c .before .before .before .before .enum-told .given .1) (ap (reading (c .before .before .before .before .before .before .before .before .before .before .before .before .before .before .before .args .buf .now) _) (c .open-read .ensures))
+returns-2 c =
+    let at-enum-told = c .before .before .before .before in
+    let after-start = at-enum-told .before .before .before .before .before .before .before in
+    let at-start = after-start .before .before .before .before in
+    arm _ _ _ _ _ _ _ _ _ (at-enum-told .enum-told .given .1) (ap (reading (at-start .args .buf .now) _) (c .open-read .ensures))
 
 sync-dir-requires : tie.Need-sync-dir-requires
 unfolding takesOf
-sync-dir-requires c κs = ready _ _ _ _ _ _ (c .before .before .before .before .before .before .before .before .before .before .before .before .before .before .before .before .pre .0) (c .before .before .before .before .before .enum-told2 .given .1) refl
+sync-dir-requires c κs =
+    let at-enum-told2 = c .before .before .before .before .before in
+    let after-start = at-enum-told2 .before .before .before .before .before .before .before in
+    let at-start = after-start .before .before .before .before in
+    ready _ _ _ _ _ _ (at-start .pre .0) (at-enum-told2 .enum-told2 .given .1) refl
 
 returns-3 : tie.Need-returns-3
 unfolding innerM
-returns-3 c = arm _ _ _ _ _ _ _ _ _ (c .before .before .before .before .before .before .before .before .before .before .before .before .before .before .enum-told2 .given .1) (quiet-is _ _ _ _ _ _ _ _ _ _ (c .quiet .ensures) _ (c .before .before .before .before .before .before .before .before .sync-dir .ensures))
+returns-3 c =
+    let after-sync-dir = c .before .before .before .before .before .before .before in
+    let at-enum-told2 = after-sync-dir .before .before .before .before .before .before .before in
+    arm _ _ _ _ _ _ _ _ _ (at-enum-told2 .enum-told2 .given .1)
+    (quiet-is _ _ _ _ _ _ _ _ _ _ (c .quiet .ensures) _ (after-sync-dir .before .sync-dir .ensures))
 
 rename-requires : tie.Need-rename-requires
 unfolding takesOf
-rename-requires c κs = ready _ _ _ _ _ _ (c .before .before .before .before .before .before .before .before .before .before .before .before .before .before .before .before .pre .0) (c .before .before .before .before .before .enum-told3 .given .1) refl
+rename-requires c κs =
+    let at-enum-told3 = c .before .before .before .before .before in
+    let after-start = at-enum-told3 .before .before .before .before .before .before .before in
+    let at-start = after-start .before .before .before .before in
+    ready _ _ _ _ _ _ (at-start .pre .0) (at-enum-told3 .enum-told3 .given .1) refl
 
 returns-4 : tie.Need-returns-4
 unfolding innerM
-returns-4 c = arm _ _ _ _ _ _ _ _ _ (c .before .before .before .before .before .before .before .before .before .before .before .before .before .before .before .before .before .before .before .enum-told3 .given .1) (quiet-is _ _ _ _ _ _ _ _ _ _ (c .quiet2 .ensures) _ (c .before .before .before .before .before .before .before .before .before .before .before .before .before .rename .ensures))
+returns-4 c =
+    let after-rename = c .before .before .before .before .before .before .before in
+    let at-rename = after-rename .before .before .before .before .before .before in
+    let at-enum-told3 = at-rename .before .before .before .before .before .before in
+    arm _ _ _ _ _ _ _ _ _ (at-enum-told3 .enum-told3 .given .1)
+    (quiet-is _ _ _ _ _ _ _ _ _ _ (c .quiet2 .ensures) _ (at-rename .rename .ensures))
 
 remove-file-requires : tie.Need-remove-file-requires
 unfolding takesOf
-remove-file-requires c κs = ready _ _ _ _ _ _ (c .before .before .before .before .before .before .before .before .before .before .before .before .before .before .before .before .pre .0) (c .before .before .before .before .before .enum-told4 .given .1) refl
+remove-file-requires c κs =
+    let at-enum-told4 = c .before .before .before .before .before in
+    let after-start = at-enum-told4 .before .before .before .before .before .before .before in
+    let at-start = after-start .before .before .before .before in
+    ready _ _ _ _ _ _ (at-start .pre .0) (at-enum-told4 .enum-told4 .given .1) refl
 
 returns-5 : tie.Need-returns-5
 unfolding innerM
-returns-5 c = arm _ _ _ _ _ _ _ _ _ (c .before .before .before .before .before .before .before .before .before .before .before .before .before .before .before .before .before .enum-told4 .given .1) (quiet-is _ _ _ _ _ _ _ _ _ _ (c .quiet3 .ensures) _ (c .before .before .before .before .before .before .before .before .before .before .before .remove-file .ensures))
+returns-5 c =
+    let after-remove-file = c .before .before .before .before .before .before .before in
+    let at-remove-file = after-remove-file .before .before .before .before in
+    let at-enum-told4 = at-remove-file .before .before .before .before .before .before in
+    arm _ _ _ _ _ _ _ _ _ (at-enum-told4 .enum-told4 .given .1)
+    (quiet-is _ _ _ _ _ _ _ _ _ _ (c .quiet3 .ensures) _ (at-remove-file .remove-file .ensures))
 
 create-dir-all-requires : tie.Need-create-dir-all-requires
 unfolding takesOf
-create-dir-all-requires c κs = ready _ _ _ _ _ _ (c .before .before .before .before .before .before .before .before .before .before .before .before .before .before .pre .0) (c .before .before .before .enum-told5 .given .1) refl .pool
+create-dir-all-requires c κs =
+    let after-start = c .before .before .before .before .before .before .before in
+    let at-start = after-start .before .before .before .before .before .before .before in
+    ready _ _ _ _ _ _ (at-start .pre .0) (c .before .before .before .enum-told5 .given .1) refl .pool
 
 returns-6 : tie.Need-returns-6
 unfolding innerM
-returns-6 c = arm _ _ _ _ _ _ _ _ _ (c .before .before .before .before .before .before .before .before .enum-told5 .given .1) (made-is _ _ _ _ _ _ _ _ _ _ (c .quiet4 .ensures) (c .before .before .before .before .before .before .before .before .before .before .before .before .before .before .before .before .before .before .before .args .pool) (c .before .before .before .before .before .before .before .before .before .before .before .before .before .before .before .before .before .before .before .args .dirs .now) _ (c .before .before .before .before .create-dir-all .ensures))
+returns-6 c =
+    let at-create-dir-all = c .before .before .before .before in
+    let at-enum-told5 = at-create-dir-all .before .before .before .before in
+    let after-start = at-enum-told5 .before .before .before .before .before .before .before in
+    let at-start = after-start .before .before .before .before in
+    arm _ _ _ _ _ _ _ _ _ (at-enum-told5 .enum-told5 .given .1)
+    (made-is _ _ _ _ _ _ _ _ _ _ (c .quiet4 .ensures) (at-start .args .pool) (at-start .args .dirs .now) _
+    (at-create-dir-all .create-dir-all .ensures))
 
 read-dir-requires : tie.Need-read-dir-requires
 unfolding takesOf
-read-dir-requires c κs = ready _ _ _ _ _ _ (c .before .before .before .before .before .before .before .before .before .before .before .before .before .before .before .pre .0) (c .before .before .before .before .enum-told6 .given .1) refl .pool
+read-dir-requires c κs =
+    let at-enum-told6 = c .before .before .before .before in
+    let after-start = at-enum-told6 .before .before .before .before .before .before .before in
+    let at-start = after-start .before .before .before .before in
+    ready _ _ _ _ _ _ (at-start .pre .0) (at-enum-told6 .enum-told6 .given .1) refl .pool
 
 returns-7 : tie.Need-returns-7
 unfolding innerM
@@ -66,24 +123,39 @@ returns-7 c = arm _ _ _ _ _ _ _ _ _ (c .before .before .before .before .before .
 
 exists-requires : tie.Need-exists-requires
 unfolding takesOf
-exists-requires c κs = ready _ _ _ _ _ _ (c .before .before .before .before .before .before .before .before .before .before .before .before .before .before .pre .0) (c .before .before .before .enum-told7 .given .1) refl .pool
+exists-requires c κs =
+    let after-start = c .before .before .before .before .before .before .before in
+    let at-start = after-start .before .before .before .before .before .before .before in
+    ready _ _ _ _ _ _ (at-start .pre .0) (c .before .before .before .enum-told7 .given .1) refl .pool
 
 returns-8 : tie.Need-returns-8
 unfolding innerM
-returns-8 c = arm _ _ _ _ _ _ _ _ _ (c .before .before .before .before .enum-told7 .given .1) (ap (found (c .before .before .before .before .before .before .before .before .before .before .before .before .before .before .before .args .buf .now) _) (c .exists .ensures))
+returns-8 c =
+    let at-enum-told7 = c .before .before .before .before in
+    let after-start = at-enum-told7 .before .before .before .before .before .before .before in
+    let at-start = after-start .before .before .before .before in
+    arm _ _ _ _ _ _ _ _ _ (at-enum-told7 .enum-told7 .given .1) (ap (found (at-start .args .buf .now) _) (c .exists .ensures))
 
 metadata-requires : tie.Need-metadata-requires
 unfolding takesOf
-metadata-requires c κs = ready _ _ _ _ _ _ (c .before .before .before .before .before .before .before .before .before .before .before .before .before .before .pre .0) (c .before .before .before .enum-told8 .given .1) refl .pool
+metadata-requires c κs =
+    let after-start = c .before .before .before .before .before .before .before in
+    let at-start = after-start .before .before .before .before .before .before .before in
+    ready _ _ _ _ _ _ (at-start .pre .0) (c .before .before .before .enum-told8 .given .1) refl .pool
 
 returns-9 : tie.Need-returns-9
 unfolding innerM
-returns-9 c = arm _ _ _ _ _ _ _ _ _ (c .before .before .before .before .enum-told8 .given .1) (ap (described (c .before .before .before .before .before .before .before .before .before .before .before .before .before .before .before .args .buf .now) _) (c .metadata .ensures))
+returns-9 c =
+    let at-enum-told8 = c .before .before .before .before in
+    let after-start = at-enum-told8 .before .before .before .before .before .before .before in
+    let at-start = after-start .before .before .before .before in
+    arm _ _ _ _ _ _ _ _ _ (at-enum-told8 .enum-told8 .given .1) (ap (described (at-start .args .buf .now) _) (c .metadata .ensures))
 
 returns-10 : tie.Need-returns-10
 returns-10 c =
     let at-match = c .before in
-    let at-args = at-match .before .before .before .before .before .before .before .before .before .before in
+    let after-args = at-match .before .before .before .before .before .before .before in
+    let at-args = after-args .before .before .before in
     absurd (no-other (at-args .args .call) (at-match .match .keys10) (at-args .pre .1))
 
 pub on-path-spec : {M : Type 1} → statement M
@@ -92,11 +164,26 @@ on-path-spec =
     (tie.spec
     (λ c. search needs)
     open-write-requires
-    (λ c. c .before .before .before .before .before .before .before .before .before .before .before .before .open-write .kept .0)
-    (λ c. c .before .before .before .before .before .before .before .before .before .before .before .before .open-write .kept .1 .0)
-    (λ c. c .before .before .before .before .before .before .before .before .before .before .before .before .open-write .kept .1 .1 .1 .1 .1 .0)
-    (λ c. c .before .before .before .before .before .before .before .before .before .before .before .before .open-write .kept .1 .1 .1 .1 .1 .1 .0)
-    (λ c. c .before .before .before .before .before .before .before .before .before .before .before .before .open-write .kept .1 .1 .1 .1 .1 .1 .1 .0)
+    (λ c.
+    let after-open-write = c .before .before .before .before .before .before .before in
+    let at-open-write = after-open-write .before .before .before .before .before in
+    at-open-write .open-write .kept .0)
+    (λ c.
+    let after-open-write = c .before .before .before .before .before .before .before in
+    let at-open-write = after-open-write .before .before .before .before .before in
+    at-open-write .open-write .kept .1 .0)
+    (λ c.
+    let after-open-write = c .before .before .before .before .before .before .before in
+    let at-open-write = after-open-write .before .before .before .before .before in
+    at-open-write .open-write .kept .1 .1 .1 .1 .1 .0)
+    (λ c.
+    let after-open-write = c .before .before .before .before .before .before .before in
+    let at-open-write = after-open-write .before .before .before .before .before in
+    at-open-write .open-write .kept .1 .1 .1 .1 .1 .1 .0)
+    (λ c.
+    let after-open-write = c .before .before .before .before .before .before .before in
+    let at-open-write = after-open-write .before .before .before .before .before in
+    at-open-write .open-write .kept .1 .1 .1 .1 .1 .1 .1 .0)
     returns
     (λ c. search needs)
     open-read-requires
@@ -107,28 +194,61 @@ on-path-spec =
     (λ c. search needs)
     sync-dir-requires
     (λ c κs. tt)
-    (λ c. c .before .before .before .before .before .before .before .before .sync-dir .kept .0)
-    (λ c. c .before .before .before .before .before .before .before .before .sync-dir .kept .1 .0)
-    (λ c. c .before .before .before .before .before .before .before .before .sync-dir .kept .1 .1 .1 .1 .1 .0)
+    (λ c.
+    let after-sync-dir = c .before .before .before .before .before .before .before in
+    after-sync-dir .before .sync-dir .kept .0)
+    (λ c.
+    let after-sync-dir = c .before .before .before .before .before .before .before in
+    after-sync-dir .before .sync-dir .kept .1 .0)
+    (λ c.
+    let after-sync-dir = c .before .before .before .before .before .before .before in
+    after-sync-dir .before .sync-dir .kept .1 .1 .1 .1 .1 .0)
     (λ c. refl)
     (λ c. refl)
     returns-3
     (λ c. search needs)
     rename-requires
     (λ c κs. tt)
-    (λ c. c .before .before .before .before .before .before .before .before .before .before .before .before .before .rename .kept .0)
-    (λ c. c .before .before .before .before .before .before .before .before .before .before .before .before .before .rename .kept .1 .0)
-    (λ c. c .before .before .before .before .before .before .before .before .before .before .before .before .before .rename .kept .1 .1 .1 .1 .1 .0)
-    (λ c. c .before .before .before .before .before .before .before .before .before .before .before .before .before .rename .kept .1 .1 .1 .1 .1 .1 .0)
-    (λ c. c .before .before .before .before .before .before .before .before .before .before .before .before .before .rename .kept .1 .1 .1 .1 .1 .1 .1 .0)
+    (λ c.
+    let after-rename = c .before .before .before .before .before .before .before in
+    let at-rename = after-rename .before .before .before .before .before .before in
+    at-rename .rename .kept .0)
+    (λ c.
+    let after-rename = c .before .before .before .before .before .before .before in
+    let at-rename = after-rename .before .before .before .before .before .before in
+    at-rename .rename .kept .1 .0)
+    (λ c.
+    let after-rename = c .before .before .before .before .before .before .before in
+    let at-rename = after-rename .before .before .before .before .before .before in
+    at-rename .rename .kept .1 .1 .1 .1 .1 .0)
+    (λ c.
+    let after-rename = c .before .before .before .before .before .before .before in
+    let at-rename = after-rename .before .before .before .before .before .before in
+    at-rename .rename .kept .1 .1 .1 .1 .1 .1 .0)
+    (λ c.
+    let after-rename = c .before .before .before .before .before .before .before in
+    let at-rename = after-rename .before .before .before .before .before .before in
+    at-rename .rename .kept .1 .1 .1 .1 .1 .1 .1 .0)
     returns-4
     (λ c. search needs)
     remove-file-requires
     (λ c κs. tt)
-    (λ c. c .before .before .before .before .before .before .before .before .before .before .before .remove-file .kept .0)
-    (λ c. c .before .before .before .before .before .before .before .before .before .before .before .remove-file .kept .1 .0)
-    (λ c. c .before .before .before .before .before .before .before .before .before .before .before .remove-file .kept .1 .1 .1 .1 .1 .0)
-    (λ c. c .before .before .before .before .before .before .before .before .before .before .before .remove-file .kept .1 .1 .1 .1 .1 .1 .0)
+    (λ c.
+    let after-remove-file = c .before .before .before .before .before .before .before in
+    let at-remove-file = after-remove-file .before .before .before .before in
+    at-remove-file .remove-file .kept .0)
+    (λ c.
+    let after-remove-file = c .before .before .before .before .before .before .before in
+    let at-remove-file = after-remove-file .before .before .before .before in
+    at-remove-file .remove-file .kept .1 .0)
+    (λ c.
+    let after-remove-file = c .before .before .before .before .before .before .before in
+    let at-remove-file = after-remove-file .before .before .before .before in
+    at-remove-file .remove-file .kept .1 .1 .1 .1 .1 .0)
+    (λ c.
+    let after-remove-file = c .before .before .before .before .before .before .before in
+    let at-remove-file = after-remove-file .before .before .before .before in
+    at-remove-file .remove-file .kept .1 .1 .1 .1 .1 .1 .0)
     (λ c. refl)
     returns-5
     (λ c. search needs)

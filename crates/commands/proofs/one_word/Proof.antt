@@ -1,5 +1,5 @@
 -- One law for each way out: `is-dump`, `no-dump`.
-use Rattle.commands.proofs.Laws.{is-dump, no-dump}
+use Rattle.commands.proofs.Ways.{is-dump, no-dump}
 use mathlib.Core.Path.{sym, _∙_}
 use borrow.Author.Needs.{needs}
 use Rattle.commands.proofs.one_word.Statement.{statement}

@@ -1,5 +1,5 @@
 -- The line's words one by one: `request-one`, `request-two`, `request-three`, `request-more`.
-use Rattle.commands.proofs.Laws.{stands, too-long, request-one, first-ends, request-two, second-ends, request-three, request-more}
+use Rattle.commands.proofs.Ways.{stands, too-long, request-one, first-ends, request-two, second-ends, request-three, request-more}
 use native.Mathlib.Omega.{arith}
 use borrow.Author.Needs.{needs}
 use Rattle.commands.proofs.parse.Statement.{statement}

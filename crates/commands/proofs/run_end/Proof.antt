@@ -4,7 +4,7 @@ use native.Mathlib.Omega.{arith}
 use mathlib.Core.Path.{refl, _≡_, sym, _∙_}
 use lib.ListN.{length, drop}
 use Rattle.commands.specs.Words.{runLen}
-use Rattle.commands.proofs.Laws.{at-stop, no-stop, at-end}
+use Rattle.commands.proofs.Ways.{at-stop, no-stop, at-end}
 use Rattle.commands.proofs.run_end.Statement.{statement}
 use Rattle.commands.proofs.run_end.Tie as tie
 

@@ -1,5 +1,5 @@
 -- One law for each way out: `three-empty`, `three-end`, `three-move`, `three-other`.
-use Rattle.commands.proofs.Laws.{three-empty, three-end, three-move, three-other}
+use Rattle.commands.proofs.Ways.{three-empty, three-end, three-move, three-other}
 use mathlib.Core.Path.{sym, _∙_}
 use lib.Seq.{length-take-le}
 use native.Mathlib.Omega.{arith}

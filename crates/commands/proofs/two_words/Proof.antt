@@ -1,5 +1,5 @@
 -- One law for each way out: `two-empty`, `two-create`, `two-sync`, `two-remove`, `two-other`.
-use Rattle.commands.proofs.Laws.{two-empty, two-create, two-sync, two-remove, two-other}
+use Rattle.commands.proofs.Ways.{two-empty, two-create, two-sync, two-remove, two-other}
 use mathlib.Core.Path.{sym, _∙_}
 use lib.Seq.{length-take-le}
 use native.Mathlib.Omega.{arith}
@@ -53,7 +53,8 @@ returns-3 c =
 
 slice-aggregate-same-bytes-5 : tie.Need-slice-aggregate-same-bytes-5
 slice-aggregate-same-bytes-5 c =
-    let start = c .before .before .before .before .before .before .before .before .before .before .before in
+    let after-start = c .before .before .before .before .before .before .before in
+    let start = after-start .before .before .before .before in
     sym (length-take-le (start .args .a) (start .args .line .now) (omega arith))
 
 slice-aggregate-same-bytes-6 : tie.Need-slice-aggregate-same-bytes-6

@@ -2,7 +2,7 @@
 use borrow.Author.Needs.{needs}
 use mathlib.Core.Path.{_∙_}
 use Rattle.device.specs.Device.{dataReadM}
-use Rattle.device.proofs.Laws.{read-clamped}
+use Rattle.device.proofs.Ways.{read-clamped}
 use Rattle.device.proofs.data_read.Statement.{statement}
 use Rattle.device.proofs.data_read.Tie as tie
 
@@ -14,10 +14,12 @@ file-pos-requires c κs =
 returns : tie.Need-returns
 unfolding dataReadM
 returns c =
-    let start = c .before .before .before .before .before .before .before .before .before in
+    let at-file-pos = c .before .before .before .before in
+    let start = at-file-pos .before .before .before .before .before in
     let a = start .args in
     let s = start .pre in
-    c .before .before .read-at .ensures ∙ read-clamped (a .plan .now) (a .geometry) (a .slot) (a .at) (a .dst .now) (a .bytes .now) (a .phys .now) (a .place) (c .before .before .before .before .file-pos .ensures) (s .0 .within (a .slot) (s .1))
+    c .before .before .read-at .ensures ∙ read-clamped (a .plan .now) (a .geometry) (a .slot) (a .at) (a .dst .now) (a .bytes .now)
+    (a .phys .now) (a .place) (at-file-pos .file-pos .ensures) (s .0 .within (a .slot) (s .1))
 
 pub data-read-spec : {M : Type 1} → statement M
 data-read-spec =

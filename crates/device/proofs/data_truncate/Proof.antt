@@ -4,8 +4,8 @@ use mathlib.Core.Path.{_≡_, refl}
 use Prim.Native.Nat.{_+_}
 use native.Mathlib.Omega.{arith}
 use Rattle.device.specs.Device.{dataTruncateM}
-use Rattle.device.specs.Shape.{slotted, shape-set}
-use Rattle.device.proofs.Laws.{cut-failed, cut-beyond, cut-done}
+use Rattle.device.proofs.Shapes.{slotted, shape-set}
+use Rattle.device.proofs.Ways.{cut-failed, cut-beyond, cut-done}
 use Rattle.device.proofs.data_truncate.Statement.{statement}
 use Rattle.device.proofs.data_truncate.Tie as tie
 
@@ -38,7 +38,8 @@ mul-base c =
 
 grow-requires : tie.Need-grow-requires
 grow-requires c κs =
-    let start = c .before .before .before .before .before .before .before .before .before in
+    let after-start = c .before .before .before .before .before .before .before in
+    let start = after-start .before .before in
     let s = slotted (start .pre .0) (start .pre .1) in
     (omega arith, omega arith)
 

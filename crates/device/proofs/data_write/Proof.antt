@@ -2,7 +2,7 @@
 use borrow.Author.Needs.{needs}
 use mathlib.Core.Path.{_∙_}
 use Rattle.device.specs.Device.{dataWriteM}
-use Rattle.device.proofs.Laws.{write-clamped}
+use Rattle.device.proofs.Ways.{write-clamped}
 use Rattle.device.proofs.data_write.Statement.{statement}
 use Rattle.device.proofs.data_write.Tie as tie
 
@@ -14,9 +14,14 @@ file-pos-requires c κs =
 returns : tie.Need-returns
 unfolding dataWriteM
 returns c =
-    let a = c .before .before .before .before .before .before .before .before .before .before .before .before .args in
-    let w = c .before .before .before .before .write-at in
-    (w .ensures .0 ∙ write-clamped (a .plan .now) (a .geometry) (a .slot) (a .at) (a .src .now) (a .bytes .now) (a .phys .now) (a .place) (c .before .before .before .before .before .before .before .file-pos .ensures), w .ensures .1)
+    let at-file-pos = c .before .before .before .before .before .before .before in
+    let at-start = at-file-pos .before .before .before .before .before in
+    let a = at-start .args in
+    let w = c .before .before .before .before .write-at in (
+      w .ensures .0 ∙ write-clamped (a .plan .now) (a .geometry) (a .slot) (a .at) (a .src .now) (a .bytes .now) (a .phys .now) (a .place)
+          (at-file-pos .file-pos .ensures),
+      w .ensures .1,
+    )
 
 pub data-write-spec : {M : Type 1} → statement M
 data-write-spec =

@@ -1,7 +1,7 @@
 -- Each way out is `flush-out`.
 use borrow.Author.Needs.{needs}
 use mathlib.Core.Bool.{true, false}
-use Rattle.device.proofs.Laws.{flush-out, stops-one, stops-two, stops-not}
+use Rattle.device.proofs.Ways.{flush-out, stops-one, stops-two, stops-not}
 use Rattle.device.proofs.flush.Statement.{statement}
 use Rattle.device.proofs.flush.Tie as tie
 

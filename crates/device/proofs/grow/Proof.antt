@@ -1,6 +1,6 @@
 -- The part that was lent is back: `zeroed-back`.
 use borrow.Author.Needs.{needs}
-use Rattle.device.proofs.Laws.{zeroed-back, grown-none}
+use Rattle.device.proofs.Ways.{zeroed-back, grown-none}
 use Rattle.device.proofs.grow.Statement.{statement}
 use Rattle.device.proofs.grow.Tie as tie
 

@@ -1,6 +1,6 @@
 -- The part that was lent to the copier is back: `copied-back`.
 use borrow.Author.Needs.{needs}
-use Rattle.device.proofs.Laws.{copied-back}
+use Rattle.device.proofs.Ways.{copied-back}
 use Rattle.device.proofs.lay.Statement.{statement}
 use Rattle.device.proofs.lay.Tie as tie
 

@@ -2,9 +2,9 @@
 use borrow.Author.Needs.{needs}
 use native.Mathlib.Omega.{arith}
 use lib.ListN.{length-take, length-drop}
-use Rattle.device.specs.Shape.{slotted}
+use Rattle.device.proofs.Shapes.{slotted}
 use Rattle.device.specs.Slots.{share-le}
-use Rattle.device.proofs.Laws.{read-failed, read-past, read-done}
+use Rattle.device.proofs.Ways.{read-failed, read-past, read-done}
 use Rattle.device.proofs.read_at.Statement.{statement}
 use Rattle.device.proofs.read_at.Tie as tie
 
@@ -22,13 +22,15 @@ returns-2 c =
 
 mul-from : tie.Need-mul-from
 mul-from c =
-    let start = c .before .before .before .before .before .before .before .before .before .before in
+    let start = let after-start = c .before .before .before .before .before .before .before in
+    after-start .before .before .before in
     let s = slotted (start .pre .0) (start .pre .1) in
     omega arith
 
 add-from : tie.Need-add-from
 add-from c =
-    let start = c .before .before .before .before .before .before .before .before .before .before in
+    let start = let after-start = c .before .before .before .before .before .before .before in
+    after-start .before .before .before in
     let s = slotted (start .pre .0) (start .pre .1) in
     omega arith
 

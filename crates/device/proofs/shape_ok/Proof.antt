@@ -6,7 +6,7 @@ use native.Mathlib.Nat.{mul-le-mul-left, mul-div-le}
 use native.Mathlib.Omega.{arith}
 use lib.ListN.{length}
 use Rattle.device.specs.Device.{shapeB}
-use Rattle.device.proofs.Laws.{quotient-less}
+use Rattle.device.proofs.Ways.{quotient-less}
 use Rattle.device.proofs.shape_ok.Statement.{statement}
 use Rattle.device.proofs.shape_ok.Tie as tie
 

@@ -2,7 +2,7 @@
 use borrow.Author.Needs.{needs}
 use native.Mathlib.Omega.{arith}
 use lib.ListN.{length}
-use Rattle.device.proofs.Laws.{stored-out, reach-more, reach-same}
+use Rattle.device.proofs.Ways.{stored-out, reach-more, reach-same}
 use Rattle.device.proofs.store.Statement.{statement}
 use Rattle.device.proofs.store.Tie as tie
 

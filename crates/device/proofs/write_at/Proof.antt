@@ -4,8 +4,8 @@ use mathlib.Core.Path.{sym}
 use native.Mathlib.Omega.{arith}
 use lib.ListN.{length, take}
 use lib.Seq.{length-take-le}
-use Rattle.device.specs.Shape.{slotted, shape-stored}
-use Rattle.device.proofs.Laws.{stores-fit, write-failed, write-beyond, write-done}
+use Rattle.device.proofs.Shapes.{slotted, shape-stored}
+use Rattle.device.proofs.Ways.{stores-fit, write-failed, write-beyond, write-done}
 use Rattle.device.proofs.write_at.Statement.{statement}
 use Rattle.device.proofs.write_at.Tie as tie
 

@@ -6,7 +6,7 @@ use Rattle.lists.specs.Runs.{tab}
 use Rattle.path.specs.Path.{samePath}
 use Rattle.dirs.specs.Dirs.{hasPath}
 use Rattle.dirs.specs.Rows.{dirAt, dirsOf}
-use Rattle.dirs.specs.RowLaws.{dir-part, dir-short}
+use Rattle.dirs.proofs.InBuffer.{dir-part, dir-short}
 use Rattle.dirs.proofs.Walks.{has-start, has-hit, has-on, has-end}
 use Rattle.dirs.proofs.dir_find.Statement.{statement}
 use Rattle.dirs.proofs.dir_find.Tie as tie
@@ -34,8 +34,9 @@ part-same-path-end c =
 
 returns : tie.Need-returns Inv-loop μ-loop
 returns c =
-    let l = c .before .before .before .before .before .loop in
-    let a = c .before .before .before .before .before .before .before .before .args in
+    let at-loop = c .before .before .before .before .before in
+    let l = at-loop .loop in
+    let a = at-loop .before .before .before .args in
     sym
     (l .inv .1
     ∙ has-hit (dirAt (a .dirs .now)) (l .j) (a .m) (a .p .now) (omega arith)
@@ -44,8 +45,9 @@ returns c =
 
 loop-again : tie.Need-loop-again Inv-loop μ-loop
 loop-again c =
-    let l = c .before .before .before .before .before .loop in
-    let a = c .before .before .before .before .before .before .before .before .args in (
+    let at-loop = c .before .before .before .before .before in
+    let l = at-loop .loop in
+    let a = at-loop .before .before .before .args in (
       omega arith,
       l .inv .1
           ∙ has-on (dirAt (a .dirs .now)) (l .j) (a .m) (a .p .now) (omega arith)

@@ -1,7 +1,7 @@
 -- `dir_len` meets its contract by `dir-length`: a row spells as many bytes as its field says, and no more than it has.
 use native.Mathlib.Omega.{arith}
 use borrow.Author.Needs.{needs}
-use Rattle.dirs.specs.RowLaws.{dir-length}
+use Rattle.dirs.proofs.InBuffer.{dir-length}
 use Rattle.dirs.proofs.dir_len.Statement.{statement}
 use Rattle.dirs.proofs.dir_len.Tie as tie
 

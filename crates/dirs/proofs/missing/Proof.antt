@@ -9,7 +9,7 @@ use Rattle.path.specs.Path.{ancestors}
 use Rattle.path.specs.Walk.{upFrom}
 use Rattle.dirs.specs.Dirs.{absent}
 use Rattle.dirs.specs.Rows.{dirsOf}
-use Rattle.path.specs.Ancestors.{up-falls}
+use Rattle.path.proofs.Ancestors.{up-falls}
 use Rattle.dirs.proofs.Walks.{absent-none, absent-more, absent-same}
 use Rattle.dirs.proofs.missing.Statement.{statement}
 use Rattle.dirs.proofs.missing.Tie as tie

@@ -4,7 +4,7 @@ use native.Mathlib.Omega.{arith}
 use lib.ListN.{length}
 use borrow.Author.Needs.{needs}
 use Rattle.dirs.specs.Rows.{dirsOf}
-use Rattle.dirs.specs.Laws.{absent-held-path, absent-new-path, missing-few}
+use Rattle.dirs.proofs.Registering.{absent-held-path, absent-new-path, missing-few}
 use Rattle.dirs.proofs.missing_path.Statement.{statement}
 use Rattle.dirs.proofs.missing_path.Tie as tie
 

@@ -2,7 +2,7 @@
 use native.Mathlib.Omega.{arith}
 use lib.ListN.{length}
 use borrow.Author.Needs.{needs}
-use Rattle.dirs.specs.RowLaws.{row-fits}
+use Rattle.dirs.proofs.InBuffer.{row-fits}
 use Rattle.dirs.proofs.Puts.{row-put}
 use Rattle.dirs.proofs.put_dir.Statement.{statement}
 use Rattle.dirs.proofs.put_dir.Tie as tie
@@ -24,8 +24,9 @@ put-at-requires c κs = let p = c .before .before .before .before .before .befor
 
 returns : tie.Need-returns
 returns c =
-    let n = c .before .before .before .before .before .before .normalize in
-    let b = c .before .before .before .before .before .before .before .before .before .before in
+    let at-normalize = c .before .before .before .before .before .before in
+    let b = at-normalize .before .before .before .before in
+    let n = at-normalize .normalize in
     row-put _ _ _ (b .pre .0) (b .pre .1) _ (b .pre .2) (n .ensures .0) (n .ensures .1) (c .before .before .put-at .ensures)
 
 pub put-dir-spec : {M : Type 1} → statement M

@@ -3,8 +3,8 @@ use mathlib.Core.Path.{sym, _∙_}
 use native.Mathlib.Omega.{arith}
 use lib.Seq.{length-take-le}
 use borrow.Author.Tests.{not-true, not-false}
-use Rattle.dirs.specs.RowLaws.{dirs-long}
-use Rattle.path.specs.Ancestors.{up-falls}
+use Rattle.dirs.proofs.InBuffer.{dirs-long}
+use Rattle.path.proofs.Ancestors.{up-falls}
 use Rattle.dirs.proofs.Walks.{Going, going-start, going-same, going-more, going-room, going-short, going-done}
 use Rattle.dirs.proofs.register_ancestors.Statement.{statement}
 use Rattle.dirs.proofs.register_ancestors.Tie as tie
@@ -30,7 +30,9 @@ dir-find-requires c κs =
     omega (arith, dirs-long _ _ _ (g .flat), g .flat .few, g .onward)
 
 slice-aggregate-put-dir : tie.Need-slice-aggregate-put-dir Inv-loop μ-loop
-slice-aggregate-put-dir c = sym (length-take-le _ _ (c .before .before .before .before .before .before .before .before .before .loop .inv .inside))
+slice-aggregate-put-dir c =
+    let after-loop = c .before .before .before .before .before .before .before in
+    sym (length-take-le _ _ (after-loop .before .before .loop .inv .inside))
 
 put-dir-requires : tie.Need-put-dir-requires Inv-loop μ-loop
 put-dir-requires c κs =

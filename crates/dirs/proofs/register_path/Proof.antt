@@ -2,7 +2,7 @@
 use mathlib.Core.Path.{sym, _∙_}
 use native.Mathlib.Omega.{arith}
 use borrow.Author.Needs.{needs}
-use Rattle.dirs.specs.RowLaws.{dirs-long}
+use Rattle.dirs.proofs.InBuffer.{dirs-long}
 use Rattle.dirs.proofs.Firsts.{held-room, held-done, new-room, next-room, next-done}
 use Rattle.dirs.proofs.register_path.Statement.{statement}
 use Rattle.dirs.proofs.register_path.Tie as tie

@@ -2,8 +2,8 @@
 use native.Mathlib.Omega.{arith}
 use Prim.Native.Nat.{_/_, _%_, _+_, _-_}
 use lib.ListN.{drop, length-take}
-use Rattle.writer.specs.Laws.{after-pours}
-use Rattle.dump.proofs.Laws.{dir-put}
+use Rattle.writer.proofs.InParts.{after-pours}
+use Rattle.dump.proofs.Ways.{dir-put}
 use borrow.Author.Needs.{needs}
 use Rattle.dump.proofs.put_dir.Statement.{statement}
 use Rattle.dump.proofs.put_dir.Tie as tie

@@ -4,11 +4,11 @@ use mathlib.Core.Path.{_≡_, refl, _∙_}
 use lib.ListN.{length, getD, drop}
 use Rattle.lists.specs.Blocks.{cat}
 use Rattle.writer.specs.Writer.{shown, pours}
-use Rattle.writer.specs.Laws.{after-pours, cat-turn, cat-end}
+use Rattle.writer.proofs.InParts.{after-pours, cat-turn, cat-end}
 use Rattle.order.specs.Spans.{spelled}
-use Rattle.order.specs.Laws.{inside-get}
+use Rattle.order.specs.InOrder.{inside-get}
 use Rattle.dump.specs.Dump.{dirLine}
-use Rattle.dump.proofs.Laws.{dir-few}
+use Rattle.dump.proofs.Ways.{dir-few}
 use native.Mathlib.Omega.{arith}
 use Rattle.dump.proofs.put_dirs.Statement.{statement}
 use Rattle.dump.proofs.put_dirs.Tie as tie

@@ -1,9 +1,9 @@
 -- The row's numbers and its path: `file-put`.
 use lib.ListN.{length}
 use mathlib.Core.Path.{ap}
-use Rattle.rows.specs.Laws.{row-fits, name-part}
-use Rattle.writer.specs.Laws.{after-pours}
-use Rattle.dump.proofs.Laws.{numbers-few, file-put}
+use Rattle.rows.proofs.InBuffers.{row-fits, name-part}
+use Rattle.writer.proofs.InParts.{after-pours}
+use Rattle.dump.proofs.Ways.{numbers-few, file-put}
 use native.Mathlib.Omega.{arith}
 use borrow.Author.Needs.{needs}
 use Rattle.dump.proofs.put_file.Statement.{statement}
@@ -45,7 +45,8 @@ part-put-path-start c = search needs
 
 part-put-path-end : tie.Need-part-put-path-end
 part-put-path-end c =
-    let at-path-len = c .before .before .before .before .before .before .before .before .before in
+    let after-path-len = c .before .before .before .before .before .before .before in
+    let at-path-len = after-path-len .before .before in
     let start = at-path-len .before .before .before .before in
     name-part _ _ _ _ (start .pre .0) _ (start .pre .1) _ (at-path-len .path-len .ensures) .0
 

@@ -5,10 +5,10 @@ use lib.ListN.{length, getD, drop}
 use Rattle.lists.specs.Blocks.{cat}
 use Rattle.rows.specs.Rows.{rowsOf}
 use Rattle.writer.specs.Writer.{shown, pours}
-use Rattle.writer.specs.Laws.{after-pours, cat-turn, cat-end}
+use Rattle.writer.proofs.InParts.{after-pours, cat-turn, cat-end}
 use Rattle.order.specs.Spans.{slotOf}
 use Rattle.dump.specs.Dump.{fileLine}
-use Rattle.dump.proofs.Laws.{file-few, held-get}
+use Rattle.dump.proofs.Ways.{file-few, held-get}
 use native.Mathlib.Omega.{arith}
 use Rattle.dump.proofs.put_files.Statement.{statement}
 use Rattle.dump.proofs.put_files.Tie as tie

@@ -1,7 +1,7 @@
 -- Five parts in a row: `numbers-put`.
-use Rattle.writer.specs.Laws.{after-pours}
-use Rattle.answers.specs.Laws.{spaced-few}
-use Rattle.dump.proofs.Laws.{numbers-put}
+use Rattle.writer.proofs.InParts.{after-pours}
+use Rattle.answers.proofs.Digits.{spaced-few}
+use Rattle.dump.proofs.Ways.{numbers-put}
 use native.Mathlib.Omega.{arith}
 use borrow.Author.Needs.{needs}
 use Rattle.dump.proofs.put_numbers.Statement.{statement}

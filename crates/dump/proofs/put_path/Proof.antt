@@ -1,6 +1,6 @@
 -- Three parts in a row: `path-put`.
-use Rattle.writer.specs.Laws.{after-pours}
-use Rattle.dump.proofs.Laws.{path-put}
+use Rattle.writer.proofs.InParts.{after-pours}
+use Rattle.dump.proofs.Ways.{path-put}
 use native.Mathlib.Omega.{arith}
 use borrow.Author.Needs.{needs}
 use Rattle.dump.proofs.put_path.Statement.{statement}

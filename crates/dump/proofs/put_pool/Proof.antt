@@ -1,9 +1,9 @@
 -- Files, directories and the free count in a row: `pool-put`.
 use native.Mathlib.Omega.{arith}
-use Rattle.writer.specs.Laws.{after-pours}
-use Rattle.answers.specs.Laws.{spaced-few}
-use Rattle.table.specs.Laws.{pool-rows}
-use Rattle.dump.proofs.Laws.{files-long, dirs-long, pool-few, pool-put}
+use Rattle.writer.proofs.InParts.{after-pours}
+use Rattle.answers.proofs.Digits.{spaced-few}
+use Rattle.table.specs.InBuffers.{pool-rows}
+use Rattle.dump.proofs.Ways.{files-long, dirs-long, pool-few, pool-put}
 use borrow.Author.Needs.{needs}
 use Rattle.dump.proofs.put_pool.Statement.{statement}
 use Rattle.dump.proofs.put_pool.Tie as tie

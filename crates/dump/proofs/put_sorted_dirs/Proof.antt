@@ -6,7 +6,7 @@ use mathlib.Core.List.{List}
 use Rattle.lists.specs.Sort.{sort}
 use Rattle.order.specs.Spans.{AllInside, before}
 use Rattle.order.specs.AllDirs.{dirs-inside}
-use Rattle.dump.proofs.Laws.{sorted-inside, sorted-count, dirs-put}
+use Rattle.dump.proofs.Ways.{sorted-inside, sorted-count, dirs-put}
 use borrow.Author.Needs.{needs}
 use Rattle.dump.proofs.put_sorted_dirs.Statement.{statement}
 use Rattle.dump.proofs.put_sorted_dirs.Tie as tie

@@ -6,7 +6,7 @@ use mathlib.Core.List.{List}
 use Rattle.lists.specs.Sort.{sort}
 use Rattle.order.specs.Spans.{AllInside, before}
 use Rattle.dump.proofs.Spans.{files-inside}
-use Rattle.dump.proofs.Laws.{sorted-held, sorted-few, files-put}
+use Rattle.dump.proofs.Ways.{sorted-held, sorted-few, files-put}
 use borrow.Author.Needs.{needs}
 use Rattle.dump.proofs.put_sorted_files.Statement.{statement}
 use Rattle.dump.proofs.put_sorted_files.Tie as tie

@@ -1,8 +1,8 @@
 -- One law for each way out: `dump-no`, `dump-yes`.
 use mathlib.Core.Path.{sym, _∙_}
 use borrow.Author.Tests.{not-true, not-false}
-use Rattle.admit.specs.Pools.{is-pool-of}
-use Rattle.dump.proofs.Laws.{dump-no, dump-yes}
+use Rattle.admit.proofs.Exactly.{is-pool-of}
+use Rattle.dump.proofs.Ways.{dump-no, dump-yes}
 use borrow.Author.Needs.{needs}
 use Rattle.dump.proofs.say_dump.Statement.{statement}
 use Rattle.dump.proofs.say_dump.Tie as tie

@@ -1,15 +1,20 @@
 -- Carried by `bind-is`: the row and the directories, put together again.
 use borrow.Author.Needs.{needs}
-use Rattle.table.specs.Laws.{pool-rows, pool-dirs}
-use Rattle.files.proofs.Laws.{normal-fits, bind-is}
+use Rattle.table.specs.InBuffers.{pool-rows, pool-dirs}
+use Rattle.files.proofs.Ways.{normal-fits, bind-is}
 use Rattle.files.proofs.bind.Statement.{statement}
 use Rattle.files.proofs.bind.Tie as tie
 
 bind-row-requires : tie.Need-bind-row-requires
-bind-row-requires c κs = (pool-rows _ (c .before .before .before .before .before .before .pre .0 .0), c .before .before .before .before .before .before .pre .0 .1, c .before .before .before .before .before .before .pre .0 .2)
+bind-row-requires c κs =
+    let at-start = c .before .before .before .before .before .before in
+    (pool-rows _ (at-start .pre .0 .0), at-start .pre .0 .1, at-start .pre .0 .2)
 
 register-ancestors-requires : tie.Need-register-ancestors-requires
-register-ancestors-requires c κs = (pool-dirs _ (c .before .before .before .before .before .before .before .before .before .before .before .before .pre .0 .0), c .before .before .before .before .before .before .before .before .before .before .before .before .pre .1, normal-fits _ (c .before .before .before .before .before .before .before .before .before .before .before .before .pre .0 .2))
+register-ancestors-requires c κs =
+    let after-start = c .before .before .before .before .before .before .before in
+    let at-start = after-start .before .before .before .before .before in
+    (pool-dirs _ (at-start .pre .0 .0), at-start .pre .1, normal-fits _ (at-start .pre .0 .2))
 
 returns : tie.Need-returns
 returns c =

@@ -1,7 +1,7 @@
 -- One law for each way out: `open-read-found`, `open-read-none`.
 use borrow.Author.Needs.{needs}
-use Rattle.table.specs.Laws.{pool-rows}
-use Rattle.files.proofs.Laws.{open-read-found, open-read-none}
+use Rattle.table.specs.InBuffers.{pool-rows}
+use Rattle.files.proofs.Ways.{open-read-found, open-read-none}
 use Rattle.files.proofs.open_read.Statement.{statement}
 use Rattle.files.proofs.open_read.Tie as tie
 

@@ -1,7 +1,7 @@
 -- One law for each way out: `room-dirs`, `room-last`, `room-enough`.
 use borrow.Author.Needs.{needs}
 use native.Mathlib.Omega.{arith}
-use Rattle.files.proofs.Laws.{dirs-fit, room-dirs, room-last, room-enough}
+use Rattle.files.proofs.Ways.{dirs-fit, room-dirs, room-last, room-enough}
 use Rattle.files.proofs.room.Statement.{statement}
 use Rattle.files.proofs.room.Tie as tie
 
@@ -12,16 +12,24 @@ sub-if1 : tie.Need-sub-if1
 sub-if1 c = omega (arith, c .before .before .before .pre .0 .few)
 
 returns : tie.Need-returns
-returns c = room-dirs _ _ _ _ _ _ _ (c .before .before .before .before .pre .0 .few) (c .before .before .before .before .pre .1) (c .before .missing .ensures) (c .if1 .taken)
+returns c =
+    let at-start = c .before .before .before .before in
+    room-dirs _ _ _ _ _ _ _ (at-start .pre .0 .few) (at-start .pre .1) (c .before .missing .ensures) (c .if1 .taken)
 
 sub-if2 : tie.Need-sub-if2
 sub-if2 c = omega (arith, c .before .before .before .before .pre .1)
 
 returns-2 : tie.Need-returns-2
-returns-2 c = room-last _ _ _ _ _ _ _ (c .before .before .before .before .before .pre .0 .few) (c .before .before .before .before .before .pre .1) (c .before .before .missing .ensures) (c .before .if1 .left) (c .if2 .taken)
+returns-2 c =
+    let at-start = c .before .before .before .before .before in
+    room-last _ _ _ _ _ _ _ (at-start .pre .0 .few) (at-start .pre .1) (c .before .before .missing .ensures) (c .before .if1 .left)
+    (c .if2 .taken)
 
 returns-3 : tie.Need-returns-3
-returns-3 c = room-enough _ _ _ _ _ _ _ (c .before .before .before .before .before .pre .0 .few) (c .before .before .before .before .before .pre .1) (c .before .before .missing .ensures) (c .before .if1 .left) (c .if2 .left)
+returns-3 c =
+    let at-start = c .before .before .before .before .before in
+    room-enough _ _ _ _ _ _ _ (at-start .pre .0 .few) (at-start .pre .1) (c .before .before .missing .ensures) (c .before .if1 .left)
+    (c .if2 .left)
 
 pub room-spec : {M : Type 1} → statement M
 room-spec =

@@ -1,7 +1,7 @@
 -- One law for each way out: `create-long`, `create-full`, `create-done`.
-use Rattle.table.specs.Laws.{pool-dirs}
-use Rattle.files.proofs.Laws.{dirs-fit}
-use Rattle.folders.proofs.Laws.{create-long, create-full, create-room, create-done}
+use Rattle.table.specs.InBuffers.{pool-dirs}
+use Rattle.files.proofs.Ways.{dirs-fit}
+use Rattle.folders.proofs.Ways.{create-long, create-full, create-room, create-done}
 use native.Mathlib.Omega.{arith}
 use borrow.Author.Needs.{needs}
 use Rattle.folders.proofs.create_dir_all.Statement.{statement}
@@ -17,25 +17,34 @@ missing-path-requires : tie.Need-missing-path-requires
 missing-path-requires c κs = dirs-fit _ _ _ (pool-dirs _ (c .before .before .before .before .before .before .before .pre))
 
 sub-if2 : tie.Need-sub-if2
-sub-if2 c = omega (arith, pool-dirs _ (c .before .before .before .before .before .before .before .before .pre) .few)
+sub-if2 c = omega (
+  arith,
+  (let after-start = c .before .before .before .before .before .before .before in
+      pool-dirs _ (after-start .before .pre) .few),
+)
 
 same-length : tie.Need-same-length
 same-length c = search needs
 
 returns-2 : tie.Need-returns-2
 returns-2 c =
-    let pre = c .before .before .before .before .before .before .before .before .before .pre in
-    let normal-len = c .before .before .before .before .normal-len in
+    let at-normal-len = c .before .before .before .before in
+    let at-start = at-normal-len .before .before .before .before .before in
+    let pre = at-start .pre in
+    let normal-len = at-normal-len .normal-len in
     let if1 = c .before .before .before .if1 in
     create-full _ _ pre _ (normal-len .ensures) (if1 .left) _ (c .before .missing-path .ensures) (c .if2 .taken)
 
 register-path-requires : tie.Need-register-path-requires
 register-path-requires c κs =
-    let pre = c .before .before .before .before .before .before .before .before .before .before .pre in
-    let normal-len = c .before .before .before .before .before .normal-len in
+    let at-normal-len = c .before .before .before .before .before in
+    let at-start = at-normal-len .before .before .before .before .before in
+    let pre = at-start .pre in
+    let normal-len = at-normal-len .normal-len in
     let if1 = c .before .before .before .before .if1 in
     let G = pool-dirs _ pre in
-    let r = create-room _ _ pre _ (normal-len .ensures) (if1 .left) _ (c .before .before .missing-path .ensures) (G .few) (c .before .if2 .left) in
+    let r = create-room _ _ pre _ (normal-len .ensures) (if1 .left) _ (c .before .before .missing-path .ensures) (G .few)
+    (c .before .if2 .left) in
     (G, r .0, r .1)
 
 same-length-2 : tie.Need-same-length-2
@@ -43,9 +52,11 @@ same-length-2 c = search needs
 
 returns-3 : tie.Need-returns-3
 returns-3 c =
-    let pre = c .before .before .before .before .before .before .before .before .before .before .before .before .before .pre in
-    let normal-len = c .before .before .before .before .before .before .before .before .normal-len in
-    let if1 = c .before .before .before .before .before .before .before .if1 in
+    let at-if1 = c .before .before .before .before .before .before .before in
+    let at-start = at-if1 .before .before .before .before .before .before in
+    let pre = at-start .pre in
+    let normal-len = at-if1 .before .normal-len in
+    let if1 = at-if1 .if1 in
     let missing-path = c .before .before .before .before .before .missing-path in
     let if2 = c .before .before .before .before .if2 in
     let d = c .before .before .register-path .ensures in

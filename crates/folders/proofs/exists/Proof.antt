@@ -1,7 +1,7 @@
 -- One law for each way out: `exists-file`, `exists-dir`.
-use Rattle.table.specs.Laws.{pool-rows, pool-dirs}
-use Rattle.files.proofs.Laws.{dirs-fit}
-use Rattle.folders.proofs.Laws.{exists-file, exists-dir}
+use Rattle.table.specs.InBuffers.{pool-rows, pool-dirs}
+use Rattle.files.proofs.Ways.{dirs-fit}
+use Rattle.folders.proofs.Ways.{exists-file, exists-dir}
 use Rattle.folders.proofs.exists.Statement.{statement}
 use Rattle.folders.proofs.exists.Tie as tie
 

@@ -1,7 +1,7 @@
 -- Carried by `due-dirty`: the row's part of the names is its path.
 use mathlib.Core.Path.{sym, _∙_}
-use Rattle.rows.specs.Laws.{row-fits, name-part}
-use Rattle.folders.proofs.Laws.{due-not, due-dirty}
+use Rattle.rows.proofs.InBuffers.{row-fits, name-part}
+use Rattle.folders.proofs.Ways.{due-not, due-dirty}
 use native.Mathlib.Omega.{arith}
 use borrow.Author.Needs.{needs}
 use Rattle.folders.proofs.is_due.Statement.{statement}
@@ -39,10 +39,13 @@ is-parent-requires c κs = search needs
 
 returns : tie.Need-returns
 returns c =
-    let pre = c .before .before .before .before .before .before .before .before .pre in
-    let is-dirty = c .before .before .before .before .is-dirty in
+    let at-is-dirty = c .before .before .before .before in
+    let at-start = at-is-dirty .before .before .before .before in
+    let pre = at-start .pre in
+    let is-dirty = at-is-dirty .is-dirty in
     let if1 = c .before .before .before .if1 in
-    due-dirty _ _ (sym (is-dirty .ensures) ∙ if1 .taken) _ (name-part _ _ _ _ (pre .0) _ (pre .1) _ (c .before .before .path-len .ensures) .1) _ (c .is-parent .ensures)
+    due-dirty _ _ (sym (is-dirty .ensures) ∙ if1 .taken) _
+    (name-part _ _ _ _ (pre .0) _ (pre .1) _ (c .before .before .path-len .ensures) .1) _ (c .is-parent .ensures)
 
 returns-2 : tie.Need-returns-2
 returns-2 c = due-not _ _ (sym (c .before .is-dirty .ensures) ∙ c .if1 .left)

@@ -1,8 +1,8 @@
 -- One law for each way out: `metadata-file`, `metadata-dir`, `metadata-none`.
 use mathlib.Core.Path.{sym, _∙_}
-use Rattle.table.specs.Laws.{pool-rows, pool-dirs}
-use Rattle.files.proofs.Laws.{dirs-fit}
-use Rattle.folders.proofs.Laws.{metadata-file, metadata-dir, metadata-none}
+use Rattle.table.specs.InBuffers.{pool-rows, pool-dirs}
+use Rattle.files.proofs.Ways.{dirs-fit}
+use Rattle.folders.proofs.Ways.{metadata-file, metadata-dir, metadata-none}
 use Rattle.folders.proofs.metadata.Statement.{statement}
 use Rattle.folders.proofs.metadata.Tie as tie
 

@@ -28,27 +28,35 @@ sync-one-requires c κs = (c .before .before .before .before .loop .inv .1 .read
 
 same-length : tie.Need-same-length Inv-loop μ-loop
 same-length c =
-    let loop = c .before .before .before .before .before .before .before .before .before .before .before .before .before .loop in
-    let sync-one = c .before .before .before .before .before .before .before .before .sync-one in
+    let after-sync-one = c .before .before .before .before .before .before .before in
+    let at-loop = after-sync-one .before .before .before .before .before .before in
+    let loop = at-loop .loop in
+    let sync-one = after-sync-one .before .sync-one in
     sync-one .kept .0 ∙ loop .inv .2
 
 same-length-2 : tie.Need-same-length-2 Inv-loop μ-loop
 same-length-2 c =
-    let loop = c .before .before .before .before .before .before .before .before .before .before .before .before .before .loop in
-    let sync-one = c .before .before .before .before .before .before .before .before .sync-one in
+    let after-sync-one = c .before .before .before .before .before .before .before in
+    let at-loop = after-sync-one .before .before .before .before .before .before in
+    let loop = at-loop .loop in
+    let sync-one = after-sync-one .before .sync-one in
     sync-one .kept .1 .0 ∙ loop .inv .3
 
 same-length-3 : tie.Need-same-length-3 Inv-loop μ-loop
 same-length-3 c =
-    let loop = c .before .before .before .before .before .before .before .before .before .before .before .before .before .loop in
-    let sync-one = c .before .before .before .before .before .before .before .before .sync-one in
+    let after-sync-one = c .before .before .before .before .before .before .before in
+    let at-loop = after-sync-one .before .before .before .before .before .before in
+    let loop = at-loop .loop in
+    let sync-one = after-sync-one .before .sync-one in
     sync-one .kept .1 .1 .1 .1 .1 .0 ∙ loop .inv .4
 
 returns : tie.Need-returns Inv-loop μ-loop
 returns c =
-    let loop = c .before .before .before .before .before .before .before .before .before .before .before .before .before .loop in
-    let loop-test = c .before .before .before .before .before .before .before .before .before .before .before .before .loop-test in
-    let sync-one = c .before .before .before .before .before .before .before .before .sync-one in
+    let after-sync-one = c .before .before .before .before .before .before .before in
+    let at-loop-test = after-sync-one .before .before .before .before .before in
+    let loop = at-loop-test .before .loop in
+    let loop-test = at-loop-test .loop-test in
+    let sync-one = after-sync-one .before .sync-one in
     syncing-stop _ _ _ _ _ _ _ (loop .inv .1) (loop-test .taken) _ _ (sync-one .ensures) (c .if1 .taken)
 
 add-i : tie.Need-add-i Inv-loop μ-loop
@@ -59,13 +67,20 @@ add-i c =
     omega (arith, at-test .loop-test .taken, r .held, r .rows)
 
 loop-less : tie.Need-loop-less Inv-loop μ-loop
-loop-less c = omega (arith, c .before .before .before .before .before .before .before .before .before .before .before .before .loop-test .taken)
+loop-less c = omega (
+  arith,
+  (let after-loop-test = c .before .before .before .before .before .before .before in
+      let at-loop-test = after-loop-test .before .before .before .before .before in
+      at-loop-test .loop-test .taken),
+)
 
 loop-again : tie.Need-loop-again Inv-loop μ-loop
 loop-again c =
-    let loop = c .before .before .before .before .before .before .before .before .before .before .before .before .before .loop in
-    let loop-test = c .before .before .before .before .before .before .before .before .before .before .before .before .loop-test in
-    let sync-one = c .before .before .before .before .before .before .before .before .sync-one in (
+    let after-sync-one = c .before .before .before .before .before .before .before in
+    let at-loop-test = after-sync-one .before .before .before .before .before in
+    let loop = at-loop-test .before .loop in
+    let loop-test = at-loop-test .loop-test in
+    let sync-one = after-sync-one .before .sync-one in (
       omega (arith, loop-test .taken),
       syncing-more _ _ _ _ _ _ _ (loop .inv .1) (loop-test .taken) _ _ (sync-one .ensures) refl (c .if1 .left),
       sync-one .kept .0 ∙ loop .inv .2,

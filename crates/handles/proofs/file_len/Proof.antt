@@ -1,6 +1,7 @@
+-- One law for each way out: `len-live`, `len-stale`.
 use mathlib.Core.Path.{sym, _∙_}
-use Rattle.table.specs.Laws.{pool-rows}
-use Rattle.handles.proofs.Laws.{live-row, len-live, len-stale}
+use Rattle.table.specs.InBuffers.{pool-rows}
+use Rattle.handles.proofs.Ways.{live-row, len-live, len-stale}
 use Rattle.handles.proofs.file_len.Statement.{statement}
 use Rattle.handles.proofs.file_len.Tie as tie
 

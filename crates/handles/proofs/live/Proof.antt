@@ -1,6 +1,7 @@
+-- One law for each way out: `live-outside`, `live-bound`, `live-unbound`.
 use mathlib.Core.Path.{sym, _∙_}
-use Rattle.rows.specs.Laws.{length-rows}
-use Rattle.handles.proofs.Laws.{live-outside, live-bound, live-unbound}
+use Rattle.rows.proofs.InBuffers.{length-rows}
+use Rattle.handles.proofs.Ways.{live-outside, live-bound, live-unbound}
 use borrow.Author.Needs.{needs}
 use Rattle.handles.proofs.live.Statement.{statement}
 use Rattle.handles.proofs.live.Tie as tie

@@ -1,6 +1,7 @@
+-- Two ways out, by whether the handle is live: a live one has its row (`live-means`), which gets the length; else all is as it was.
 use mathlib.Core.Path.{sym, _∙_}
-use Rattle.handles.specs.Laws.{live-means}
-use Rattle.rows.specs.Laws.{length-rows}
+use Rattle.handles.proofs.Stays.{live-means}
+use Rattle.rows.proofs.InBuffers.{length-rows}
 use native.Mathlib.Omega.{arith}
 use borrow.Author.Needs.{needs}
 use Rattle.handles.proofs.resize.Statement.{statement}
@@ -11,9 +12,10 @@ live-requires c κs = search needs
 
 set-row-len-requires : tie.Need-set-row-len-requires
 set-row-len-requires c κs =
+    let at-start = c .before .before .before .before .before .before in
     let e = sym (c .before .before .live .ensures) ∙ c .before .if1 .taken in
     let m = live-means _ _ _ e in
-    (c .before .before .before .before .before .before .pre, omega (arith, m .0, length-rows (c .before .before .before .before .before .before .args .nums .now) (c .before .before .before .before .before .before .args .names .now) (c .before .before .before .before .before .before .args .n)), m .1)
+    (at-start .pre, omega (arith, m .0, length-rows (at-start .args .nums .now) (at-start .args .names .now) (at-start .args .n)), m .1)
 
 same-length : tie.Need-same-length
 same-length c = search needs

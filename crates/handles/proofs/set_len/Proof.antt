@@ -1,8 +1,9 @@
+-- One law for each way out: `stale`, then `set-len-is` with `resize-stopped` and `resize-done`.
 use mathlib.Core.Path.{sym, _∙_}
-use Rattle.table.specs.Laws.{pool-rows}
+use Rattle.table.specs.InBuffers.{pool-rows}
 use borrow.Author.Tests.{not-true, not-false}
 use Rattle.handles.specs.Handles.{setLenM}
-use Rattle.handles.proofs.Laws.{live-device, stale, goes, resize-stopped, resize-done, set-len-is}
+use Rattle.handles.proofs.Ways.{live-device, stale, goes, resize-stopped, resize-done, set-len-is}
 use borrow.Author.Needs.{needs}
 use Rattle.handles.proofs.set_len.Statement.{statement}
 use Rattle.handles.proofs.set_len.Tie as tie
@@ -15,10 +16,17 @@ same-length c = search needs
 
 returns : tie.Need-returns
 unfolding setLenM
-returns c = stale _ _ _ _ _ (c .before .before .before .before .before .before .before .before .before .pre .pool) (sym (c .before .live .ensures) ∙ not-true (c .before .live .result) (c .if1 .taken))
+returns c =
+    let after-start = c .before .before .before .before .before .before .before in
+    stale _ _ _ _ _ (after-start .before .before .pre .pool)
+    (sym (c .before .live .ensures) ∙ not-true (c .before .live .result) (c .if1 .taken))
 
 data-truncate-requires : tie.Need-data-truncate-requires
-data-truncate-requires c κs = live-device _ _ (c .before .before .before .before .before .before .before .before .before .before .before .pre) _ _ (sym (c .before .before .before .live .ensures) ∙ not-false (c .before .before .before .live .result) (c .before .before .if1 .left))
+data-truncate-requires c κs =
+    let at-live = c .before .before .before in
+    let after-start = at-live .before .before .before .before .before .before .before in
+    live-device _ _ (after-start .before .pre) _ _
+    (sym (at-live .live .ensures) ∙ not-false (at-live .live .result) (c .before .before .if1 .left))
 
 same-length-2 : tie.Need-same-length-2
 same-length-2 c = search needs
@@ -30,10 +38,20 @@ same-length-4 : tie.Need-same-length-4
 same-length-4 c = search needs
 
 returns-2 : tie.Need-returns-2
-returns-2 c = set-len-is _ _ _ _ _ (sym (c .before .before .before .before .before .before .before .before .before .live .ensures) ∙ not-false (c .before .before .before .before .before .before .before .before .before .live .result) (c .before .before .before .before .before .before .before .before .if1 .left)) _ _ (resize-stopped _ _ (c .before .before .before .before .before .before .before .before .before .before .before .before .before .before .before .before .before .pre) _ _ _ _ (c .before .before .before .before .before .data-truncate .ensures .0) (c .if2 .taken))
+returns-2 c =
+    let at-data-truncate = c .before .before .before .before .before in
+    let at-live = at-data-truncate .before .before .before .before in
+    let after-start = at-live .before .before .before .before .before .before .before in
+    set-len-is _ _ _ _ _ (sym (at-live .live .ensures) ∙ not-false (at-live .live .result)
+    (at-data-truncate .before .before .before .if1 .left)) _ _
+    (resize-stopped _ _ (after-start .before .pre) _ _ _ _ (at-data-truncate .data-truncate .ensures .0) (c .if2 .taken))
 
 resize-requires : tie.Need-resize-requires
-resize-requires c κs = pool-rows _ (c .before .before .before .before .before .before .before .before .before .before .before .before .before .before .before .before .before .before .pre .pool)
+resize-requires c κs =
+    let after-start-2 = c .before .before .before .before .before .before .before in
+    let after-start = after-start-2 .before .before .before .before .before .before .before in
+    let at-start = after-start .before .before .before .before in
+    pool-rows _ (at-start .pre .pool)
 
 same-length-5 : tie.Need-same-length-5
 same-length-5 c = search needs
@@ -46,9 +64,15 @@ same-length-7 c = search needs
 
 returns-3 : tie.Need-returns-3
 returns-3 c =
-    let e = sym (c .before .before .before .before .before .before .before .before .before .before .before .before .before .live .ensures) ∙ not-false (c .before .before .before .before .before .before .before .before .before .before .before .before .before .live .result) (c .before .before .before .before .before .before .before .before .before .before .before .before .if1 .left) in
+    let at-if2 = c .before .before .before .before in
+    let at-data-truncate = at-if2 .before .before .before .before .before in
+    let at-live = at-data-truncate .before .before .before .before in
+    let after-start = at-live .before .before .before .before .before .before .before in
+    let e = sym (at-live .live .ensures) ∙ not-false (at-live .live .result) (at-data-truncate .before .before .before .if1 .left) in
     let s = c .before .before .resize .ensures in
-    set-len-is _ _ _ _ _ e _ _ (resize-done _ _ (c .before .before .before .before .before .before .before .before .before .before .before .before .before .before .before .before .before .before .before .before .before .pre) _ _ _ _ (c .before .before .before .before .before .before .before .before .before .data-truncate .ensures .0) (c .before .before .before .before .if2 .left) _ e _ (s .0) _ (s .1 .0) (s .1 .1))
+    set-len-is _ _ _ _ _ e _ _
+    (resize-done _ _ (after-start .before .pre) _ _ _ _ (at-data-truncate .data-truncate .ensures .0) (at-if2 .if2 .left) _ e _
+    (s .0) _ (s .1 .0) (s .1 .1))
 
 pub set-len-spec : {M : Type 1} → statement M
 set-len-spec =

@@ -1,8 +1,9 @@
+-- One law for each way out: `stale`, `sync-dirty`, `sync-clean`.
 use mathlib.Core.Path.{sym, _∙_}
-use Rattle.table.specs.Laws.{pool-rows}
+use Rattle.table.specs.InBuffers.{pool-rows}
 use borrow.Author.Tests.{not-true, not-false}
 use Rattle.handles.specs.Handles.{syncM}
-use Rattle.handles.proofs.Laws.{live-row, stale, goes, sync-dirty, sync-clean}
+use Rattle.handles.proofs.Ways.{live-row, stale, goes, sync-dirty, sync-clean}
 use borrow.Author.Needs.{needs}
 use Rattle.handles.proofs.sync.Statement.{statement}
 use Rattle.handles.proofs.sync.Tie as tie
@@ -15,13 +16,27 @@ same-length c = search needs
 
 returns : tie.Need-returns
 unfolding syncM
-returns c = stale _ _ _ _ _ (c .before .before .before .before .before .before .before .before .before .pre .pool) (sym (c .before .live .ensures) ∙ not-true (c .before .live .result) (c .if1 .taken))
+returns c =
+    let after-start = c .before .before .before .before .before .before .before in
+    stale _ _ _ _ _ (after-start .before .before .pre .pool)
+    (sym (c .before .live .ensures) ∙ not-true (c .before .live .result) (c .if1 .taken))
 
 is-dirty-requires : tie.Need-is-dirty-requires
-is-dirty-requires c κs = (pool-rows _ (c .before .before .before .before .before .before .before .before .before .before .pre .pool), live-row _ _ _ _ _ (sym (c .before .before .live .ensures) ∙ not-false (c .before .before .live .result) (c .before .if1 .left)) .0)
+is-dirty-requires c κs =
+    let after-start = c .before .before .before .before .before .before .before in (
+      pool-rows _ (after-start .before .before .before .pre .pool),
+      live-row _ _ _ _ _
+          (sym (c .before .before .live .ensures) ∙ not-false (c .before .before .live .result) (c .before .if1 .left)) .0,
+    )
 
 sync-row-requires : tie.Need-sync-row-requires
-sync-row-requires c κs = (c .before .before .before .before .before .before .before .before .before .before .before .before .before .before .before .pre, live-row _ _ _ _ _ (sym (c .before .before .before .before .before .before .before .live .ensures) ∙ not-false (c .before .before .before .before .before .before .before .live .result) (c .before .before .before .before .before .before .if1 .left)))
+sync-row-requires c κs =
+    let at-live = c .before .before .before .before .before .before .before in
+    let after-start = at-live .before .before .before .before .before .before .before in (
+      after-start .before .pre,
+      live-row _ _ _ _ _ (sym (at-live .live .ensures) ∙ not-false (at-live .live .result)
+          (c .before .before .before .before .before .before .if1 .left)),
+    )
 
 same-length-2 : tie.Need-same-length-2
 same-length-2 c = search needs
@@ -33,7 +48,12 @@ same-length-4 : tie.Need-same-length-4
 same-length-4 c = search needs
 
 returns-2 : tie.Need-returns-2
-returns-2 c = sync-dirty _ _ _ _ _ (sym (c .before .before .before .before .before .before .before .before .before .before .before .before .before .before .live .ensures) ∙ not-false (c .before .before .before .before .before .before .before .before .before .before .before .before .before .before .live .result) (c .before .before .before .before .before .before .before .before .before .before .before .before .before .if1 .left)) (sym (c .before .before .before .before .before .before .before .before .before .before .before .is-dirty .ensures) ∙ c .before .before .before .before .before .before .before .before .before .before .if2 .taken) _ _ (c .before .before .before .before .before .before .sync-row .ensures)
+returns-2 c =
+    let at-sync-row = c .before .before .before .before .before .before in
+    let at-if2 = at-sync-row .before .before .before .before in
+    let at-live = at-if2 .before .before .before .before in
+    sync-dirty _ _ _ _ _ (sym (at-live .live .ensures) ∙ not-false (at-live .live .result) (at-if2 .before .before .before .if1 .left))
+    (sym (at-if2 .before .is-dirty .ensures) ∙ at-if2 .if2 .taken) _ _ (at-sync-row .sync-row .ensures)
 
 flush-requires : tie.Need-flush-requires
 flush-requires c κs = search needs
@@ -42,7 +62,11 @@ same-length-5 : tie.Need-same-length-5
 same-length-5 c = search needs
 
 returns-3 : tie.Need-returns-3
-returns-3 c = sync-clean _ _ _ _ _ (sym (c .before .before .before .before .before .live .ensures) ∙ not-false (c .before .before .before .before .before .live .result) (c .before .before .before .before .if1 .left)) (c .before .before .before .before .before .before .before .before .before .before .before .before .before .pre .pool) (sym (c .before .before .is-dirty .ensures) ∙ c .before .if2 .left) _ (c .flush .ensures)
+returns-3 c =
+    let at-live = c .before .before .before .before .before in
+    let after-start = at-live .before .before .before .before .before .before .before in
+    sync-clean _ _ _ _ _ (sym (at-live .live .ensures) ∙ not-false (at-live .live .result) (c .before .before .before .before .if1 .left))
+    (after-start .before .pre .pool) (sym (c .before .before .is-dirty .ensures) ∙ c .before .if2 .left) _ (c .flush .ensures)
 
 pub sync-spec : {M : Type 1} → statement M
 sync-spec =

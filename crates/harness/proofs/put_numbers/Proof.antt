@@ -4,7 +4,7 @@ use Prim.Native.Nat.{ℕ}
 use mathlib.Core.List.{List, [], _++_}
 use lib.ListN.{drop}
 use Rattle.le.specs.Le.{le}
-use Rattle.le.specs.Parts.{next, laid-front}
+use Rattle.le.proofs.Parts.{next, laid-front}
 use Rattle.harness.specs.Calls.{numbersOf}
 use borrow.Author.Needs.{needs}
 use Rattle.harness.proofs.put_numbers.Statement.{statement}

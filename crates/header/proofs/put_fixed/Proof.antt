@@ -5,7 +5,7 @@ use mathlib.Core.Path.{refl, ap, _∙_}
 use mathlib.Core.List.{List, [], _++_}
 use lib.ListN.{drop}
 use Rattle.le.specs.Le.{le}
-use Rattle.le.specs.Parts.{next}
+use Rattle.le.proofs.Parts.{next}
 use Rattle.header.specs.Block.{magic, fixed}
 use Rattle.header.proofs.put_fixed.Statement.{statement}
 use Rattle.header.proofs.put_fixed.Tie as tie

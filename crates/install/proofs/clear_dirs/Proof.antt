@@ -1,5 +1,5 @@
 -- Carried by `dirs-cut`: zeros over the last rows leave the first ones.
-use Rattle.dirs.specs.RowLaws.{dirs-long}
+use Rattle.dirs.proofs.InBuffer.{dirs-long}
 use Rattle.install.proofs.Walks.{dirs-cut}
 use native.Mathlib.Omega.{arith}
 use borrow.Author.Needs.{needs}

@@ -2,7 +2,7 @@
 use Prim.Native.Nat.{_-_}
 use mathlib.Core.Path.{sym, _∙_}
 use borrow.Author.Tests.{not-true, not-false}
-use Rattle.dirs.specs.RowLaws.{dirs-long}
+use Rattle.dirs.proofs.InBuffer.{dirs-long}
 use Rattle.install.proofs.Walks.{Going, going-start, going-more, going-flat, going-full, going-done}
 use native.Mathlib.Omega.{arith}
 use Rattle.install.proofs.register_claims.Statement.{statement}

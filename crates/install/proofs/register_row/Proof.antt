@@ -1,7 +1,7 @@
 -- One law for each way out: `row-full`, `row-done`.
 use mathlib.Core.Path.{sym, _∙_}
-use Rattle.rows.specs.Laws.{row-fits, name-part}
-use Rattle.dirs.specs.RowLaws.{dirs-long}
+use Rattle.rows.proofs.InBuffers.{row-fits, name-part}
+use Rattle.dirs.proofs.InBuffer.{dirs-long}
 use Rattle.install.proofs.Walks.{row-full, row-room, row-done}
 use native.Mathlib.Omega.{arith}
 use borrow.Author.Needs.{needs}

@@ -4,7 +4,7 @@ use mathlib.Core.Path.{_≡_, refl, sym, _∙_}
 use lib.ListN.{length, take, drop}
 use borrow.Author.Needs.{needs}
 use Rattle.rows.specs.Rows.{rowsOf, Flat}
-use Rattle.rows.specs.Laws.{nums-long, names-long}
+use Rattle.rows.proofs.InBuffers.{nums-long, names-long}
 use Rattle.survey.specs.Staged.{vacated}
 use Rattle.install.proofs.Walks.{list-in, vacated-more, vacated-done}
 use native.Mathlib.Omega.{arith}
@@ -39,8 +39,16 @@ loop-less c = omega arith
 
 loop-again : tie.Need-loop-again Inv-loop μ-loop
 loop-again c =
-    let w : length (c .before .before .before .before .before .before .before .before .before .before .before .args .t5) ≡ 64 = search needs in
-    (omega arith, c .before .before .before .before .unbind-row .ensures .1, vacated-more _ _ _ _ _ _ (c .before .before .before .before .before .before .before .loop-test .taken) (omega arith) (c .before .before .before .before .before .before .before .before .loop .inv .2) (c .before .before .before .before .unbind-row .ensures .0))
+    let w : (let at-loop-test = c .before .before .before .before .before .before .before in
+    let at-start = at-loop-test .before .before .before .before in
+    length (at-start .args .t5) ≡ 64) = search needs in
+    let at-unbind-row = c .before .before .before .before in
+    let at-loop = at-unbind-row .before .before .before .before in (
+      omega arith,
+      at-unbind-row .unbind-row .ensures .1,
+      vacated-more _ _ _ _ _ _ (at-unbind-row .before .before .before .loop-test .taken)
+          (omega arith) (at-loop .loop .inv .2) (at-unbind-row .unbind-row .ensures .0),
+    )
 
 same-length : tie.Need-same-length Inv-loop μ-loop
 same-length c = nums-long _ _ _ _ (c .before .loop .inv .1) ∙ sym (nums-long _ _ _ _ (c .before .before .before .before .pre .0))
@@ -51,7 +59,11 @@ same-length-2 c = names-long _ _ _ _ (c .before .loop .inv .1) ∙ sym (names-lo
 returns : tie.Need-returns Inv-loop μ-loop
 returns c =
     let w : length (c .before .before .before .before .args .t5) ≡ 64 = search needs in
-    (vacated-done (c .before .before .before .before .args .t5) (c .before .before .before .before .args .count) (c .before .loop .i) _ _ (omega arith) (omega arith) (c .before .loop .inv .2), c .before .loop .inv .1)
+    let at-start = c .before .before .before .before in (
+      vacated-done (at-start .args .t5) (at-start .args .count) (c .before .loop .i) _ _ (omega arith) (omega arith)
+          (c .before .loop .inv .2),
+      c .before .loop .inv .1,
+    )
 
 pub unbind-losers-spec : {M : Type 1} → statement M
 unbind-losers-spec =

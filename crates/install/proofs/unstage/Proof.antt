@@ -1,5 +1,5 @@
 -- Carried by `nums-cut` and `names-cut`: zeros over the last rows leave the first ones.
-use Rattle.rows.specs.Laws.{nums-long, names-long}
+use Rattle.rows.proofs.InBuffers.{nums-long, names-long}
 use Rattle.install.proofs.Walks.{nums-cut, names-cut}
 use native.Mathlib.Omega.{arith}
 use borrow.Author.Needs.{needs}

@@ -5,8 +5,8 @@ use mathlib.Core.Path.{_≡_, ap, _∙_}
 use native.Mathlib.Omega.{arith}
 use lib.ListN.{length}
 use Rattle.le.specs.Le.{le, laid}
-use Rattle.le.specs.Fields.{length-le}
-use Rattle.le.specs.Parts.{length-mid, mid-back}
+use Rattle.le.proofs.Fields.{length-le}
+use Rattle.le.proofs.Parts.{length-mid, mid-back}
 use Rattle.le.proofs.put_at.Statement.{statement}
 use Rattle.le.proofs.put_at.Tie as tie
 

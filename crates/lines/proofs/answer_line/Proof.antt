@@ -1,6 +1,6 @@
 -- One law for each command: it lies in its line, and is what the line asks for.
 use native.Mathlib.Omega.{arith}
-use Rattle.lines.proofs.Laws.{create-fits, sync-fits, remove-fits, move-fits, create-line, sync-line, remove-line, move-line, dump-line, what-line}
+use Rattle.lines.proofs.Ways.{create-fits, sync-fits, remove-fits, move-fits, create-line, sync-line, remove-line, move-line, dump-line, what-line}
 use borrow.Author.Needs.{needs}
 use Rattle.lines.proofs.answer_line.Statement.{statement}
 use Rattle.lines.proofs.answer_line.Tie as tie

@@ -1,5 +1,5 @@
 -- The one function of the public calls, on the program's device: `on-card-is`.
-use Rattle.lines.proofs.Laws.{on-card-is}
+use Rattle.lines.proofs.Ways.{on-card-is}
 use borrow.Author.Needs.{needs}
 use Rattle.lines.proofs.ask.Statement.{statement}
 use Rattle.lines.proofs.ask.Tie as tie

@@ -1,5 +1,5 @@
 -- The call's handle and its text: `creates`.
-use Rattle.lines.proofs.Laws.{creates}
+use Rattle.lines.proofs.Ways.{creates}
 use borrow.Author.Needs.{needs}
 use Rattle.lines.proofs.create.Statement.{statement}
 use Rattle.lines.proofs.create.Tie as tie

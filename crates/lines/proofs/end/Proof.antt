@@ -1,5 +1,5 @@
 -- The call's number and its text: `ends`.
-use Rattle.lines.proofs.Laws.{ends}
+use Rattle.lines.proofs.Ways.{ends}
 use borrow.Author.Needs.{needs}
 use Rattle.lines.proofs.end.Statement.{statement}
 use Rattle.lines.proofs.end.Tie as tie

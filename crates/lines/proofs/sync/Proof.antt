@@ -1,6 +1,6 @@
 -- One law for each way out: `sync-no`, `sync-goes`.
 use mathlib.Core.Path.{_∙_}
-use Rattle.lines.proofs.Laws.{sync-no, sync-goes}
+use Rattle.lines.proofs.Ways.{sync-no, sync-goes}
 use borrow.Author.Needs.{needs}
 use Rattle.lines.proofs.sync.Statement.{statement}
 use Rattle.lines.proofs.sync.Tie as tie

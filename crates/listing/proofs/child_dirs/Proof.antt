@@ -7,7 +7,7 @@ use Rattle.path.specs.Path.{isParent}
 use Rattle.dirs.specs.Rows.{dirsOf}
 use Rattle.order.specs.Spans.{dirSpan}
 use Rattle.order.specs.Picks.{Picking, picking-start, picking-yes, picking-no, picking-end}
-use Rattle.listing.proofs.Laws.{child-dirs}
+use Rattle.listing.proofs.Ways.{child-dirs}
 use native.Mathlib.Omega.{arith}
 use Rattle.listing.proofs.child_dirs.Statement.{statement}
 use Rattle.listing.proofs.child_dirs.Tie as tie
@@ -28,7 +28,9 @@ is-child-dir-requires : tie.Need-is-child-dir-requires Inv-loop μ-loop
 is-child-dir-requires c κs = (c .before .before .before .before .before .pre .0, c .loop-test .taken)
 
 dir-span-requires : tie.Need-dir-span-requires Inv-loop μ-loop
-dir-span-requires c κs = (c .before .before .before .before .before .before .before .pre .0, c .before .before .loop-test .taken, c .before .before .before .before .before .before .before .pre .1)
+dir-span-requires c κs =
+    let at-start = c .before .before .before .before .before .before .before in
+    (at-start .pre .0, c .before .before .loop-test .taken, at-start .pre .1)
 
 mul-spans : tie.Need-mul-spans Inv-loop μ-loop
 mul-spans c = omega (arith, c .before .before .before .before .loop .inv .few, c .before .before .before .before .loop .inv .long)

@@ -5,7 +5,7 @@ use Rattle.rows.specs.Rows.{at, rowsOf}
 use Rattle.order.specs.Spans.{fileSpan}
 use Rattle.order.specs.Picks.{Picking, picking-start, picking-yes, picking-no, picking-end}
 use Rattle.listing.specs.Listing.{isChild}
-use Rattle.listing.proofs.Laws.{child-files}
+use Rattle.listing.proofs.Ways.{child-files}
 use native.Mathlib.Omega.{arith}
 use Rattle.listing.proofs.child_files.Statement.{statement}
 use Rattle.listing.proofs.child_files.Tie as tie
@@ -26,7 +26,10 @@ is-child-requires : tie.Need-is-child-requires Inv-loop μ-loop
 is-child-requires c κs = (c .before .before .before .before .before .before .pre .0, c .loop-test .taken)
 
 file-span-requires : tie.Need-file-span-requires Inv-loop μ-loop
-file-span-requires c κs = (c .before .before .before .before .before .before .before .before .pre .0, c .before .before .loop-test .taken, c .before .before .before .before .before .before .before .before .pre .1)
+file-span-requires c κs =
+    let at-loop-test = c .before .before in
+    let at-start = at-loop-test .before .before .before .before .before .before in
+    (at-start .pre .0, at-loop-test .loop-test .taken, at-start .pre .1)
 
 mul-spans : tie.Need-mul-spans Inv-loop μ-loop
 mul-spans c = omega (arith, c .before .before .before .before .loop .inv .few, c .before .before .before .before .loop .inv .long)

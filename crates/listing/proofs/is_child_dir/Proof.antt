@@ -1,7 +1,7 @@
 -- Carried by `child-dir`: the row's part is its spelling.
 use mathlib.Core.Path.{_∙_}
-use Rattle.dirs.specs.RowLaws.{dir-short}
-use Rattle.listing.proofs.Laws.{child-dir}
+use Rattle.dirs.proofs.InBuffer.{dir-short}
+use Rattle.listing.proofs.Ways.{child-dir}
 use native.Mathlib.Omega.{arith}
 use borrow.Author.Needs.{needs}
 use Rattle.listing.proofs.is_child_dir.Statement.{statement}
@@ -32,7 +32,9 @@ is-parent-requires : tie.Need-is-parent-requires
 is-parent-requires c κs = search needs
 
 returns : tie.Need-returns
-returns c = c .is-parent .ensures ∙ child-dir _ _ _ _ _ (c .before .before .before .before .before .pre .0) (c .before .before .before .before .before .pre .1) (c .before .before .dir-len .ensures)
+returns c =
+    let at-start = c .before .before .before .before .before in
+    c .is-parent .ensures ∙ child-dir _ _ _ _ _ (at-start .pre .0) (at-start .pre .1) (c .before .before .dir-len .ensures)
 
 pub is-child-dir-spec : {M : Type 1} → statement M
 is-child-dir-spec =

@@ -1,8 +1,8 @@
 -- The invariant `Putting`: what is still to be written makes the whole of it.
-use Rattle.order.specs.Laws.{inside-get}
+use Rattle.order.specs.InOrder.{inside-get}
 use Prim.Native.Nat.{_-_}
 use lib.ListN.{length}
-use Rattle.listing.proofs.Laws.{Putting, putting-start, putting-more, putting-end, next-fits, next-long}
+use Rattle.listing.proofs.Ways.{Putting, putting-start, putting-more, putting-end, next-fits, next-long}
 use native.Mathlib.Omega.{arith}
 use Rattle.listing.proofs.put_entries.Statement.{statement}
 use Rattle.listing.proofs.put_entries.Tie as tie
@@ -41,15 +41,30 @@ part-put-entry-end : tie.Need-part-put-entry-end Inv-loop μ-loop
 part-put-entry-end c = omega (arith, inside-get _ _ _ (c .before .before .before .before .before .before .pre .0) (c .before .loop-test .taken))
 
 put-entry-requires : tie.Need-put-entry-requires Inv-loop μ-loop
-put-entry-requires c κs = next-fits _ _ _ _ _ _ _ _ (c .before .before .before .before .loop .inv) (c .before .before .before .before .before .before .before .before .pre .0) (c .before .before .before .loop-test .taken) (c .before .before .before .before .before .before .before .before .pre .1)
+put-entry-requires c κs =
+    let at-loop = c .before .before .before .before in
+    let at-start = at-loop .before .before .before .before in
+    next-fits _ _ _ _ _ _ _ _ (at-loop .loop .inv) (at-start .pre .0) (c .before .before .before .loop-test .taken) (at-start .pre .1)
 
 add-end : tie.Need-add-end Inv-loop μ-loop
 add-end c =
-    omega (arith, c .before .before .before .before .before .before .before .loop .inv .reached, next-long _ _ _ _ _ _ _ _ (c .before .before .before .before .before .before .before .loop .inv) (c .before .before .before .before .before .before .before .before .before .before .before .pre .0) (c .before .before .before .before .before .before .loop-test .taken))
+    omega (
+      arith,
+      c .before .before .before .before .before .before .before .loop .inv .reached,
+      (let at-loop = c .before .before .before .before .before .before .before in
+          let at-start = at-loop .before .before .before .before in
+          next-long _ _ _ _ _ _ _ _ (at-loop .loop .inv) (at-start .pre .0) (c .before .before .before .before .before .before .loop-test .taken)),
+    )
 
 add-end-2 : tie.Need-add-end-2 Inv-loop μ-loop
 add-end-2 c =
-    omega (arith, c .before .before .before .before .before .before .before .loop .inv .reached, next-long _ _ _ _ _ _ _ _ (c .before .before .before .before .before .before .before .loop .inv) (c .before .before .before .before .before .before .before .before .before .before .before .pre .0) (c .before .before .before .before .before .before .loop-test .taken))
+    omega (
+      arith,
+      c .before .before .before .before .before .before .before .loop .inv .reached,
+      (let at-loop = c .before .before .before .before .before .before .before in
+          let at-start = at-loop .before .before .before .before in
+          next-long _ _ _ _ _ _ _ _ (at-loop .loop .inv) (at-start .pre .0) (c .before .before .before .before .before .before .loop-test .taken)),
+    )
 
 add-i : tie.Need-add-i Inv-loop μ-loop
 add-i c = omega arith
@@ -58,7 +73,11 @@ loop-less : tie.Need-loop-less Inv-loop μ-loop
 loop-less c = omega arith
 
 loop-again : tie.Need-loop-again Inv-loop μ-loop
-loop-again c = putting-more _ _ _ _ _ _ _ _ (c .before .before .before .before .before .before .before .loop .inv) (c .before .before .before .before .before .before .before .before .before .before .before .pre .0) (c .before .before .before .before .before .before .loop-test .taken) _ (c .before .before .put-entry .ensures)
+loop-again c =
+    let at-loop = c .before .before .before .before .before .before .before in
+    let at-start = at-loop .before .before .before .before in
+    putting-more _ _ _ _ _ _ _ _ (at-loop .loop .inv) (at-start .pre .0)
+    (c .before .before .before .before .before .before .loop-test .taken) _ (c .before .before .put-entry .ensures)
 
 same-length : tie.Need-same-length Inv-loop μ-loop
 same-length c = c .before .loop .inv .long

@@ -3,7 +3,7 @@ use Prim.Native.Nat.{_+_, _-_, _≤_}
 use mathlib.Core.Path.{_≡_}
 use lib.ListN.{length, drop}
 use Rattle.listing.specs.Parts.{sizeOf}
-use Rattle.listing.proofs.Laws.{size-turn, size-few, size-end}
+use Rattle.listing.proofs.Ways.{size-turn, size-few, size-end}
 use native.Mathlib.Omega.{arith}
 use Rattle.listing.proofs.size_of.Statement.{statement}
 use Rattle.listing.proofs.size_of.Tie as tie

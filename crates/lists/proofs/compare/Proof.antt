@@ -60,7 +60,8 @@ shared-slice-read-if3-2 c = omega arith
 
 returns-3 : tie.Need-returns-3 Inv-loop μ-loop
 returns-3 c =
-    let at = c .before .before .before .before .before .before .before .before in
+    let after-at = c .before .before .before .before .before .before .before in
+    let at = after-at .before in
     let s = both (at .before .args .a .now) (at .before .args .b .now) (at .loop .i) (omega arith) (omega arith) in
     sym (at .loop .inv .2 ∙ s ∙ rw (nat-greater _ _ (c .if3 .taken)))
 
@@ -72,9 +73,10 @@ loop-less c = omega arith
 
 loop-again : tie.Need-loop-again Inv-loop μ-loop
 loop-again c =
-    let at = c .before .before .before .before .before .before .before .before in
+    let at-if2 = c .before .before .before in
+    let at = at-if2 .before .before .before .before .before in
     let s = both (at .before .args .a .now) (at .before .args .b .now) (at .loop .i) (omega arith) (omega arith) in
-    (omega arith, omega arith, at .loop .inv .2 ∙ s ∙ rw (nat-same _ _ (c .before .before .before .if2 .left) (c .if3 .left)))
+    (omega arith, omega arith, at .loop .inv .2 ∙ s ∙ rw (nat-same _ _ (at-if2 .if2 .left) (c .if3 .left)))
 
 returns-4 : tie.Need-returns-4 Inv-loop μ-loop
 returns-4 c = sym (c .before .before .loop .inv .2 ∙ a-ends _ _ (c .before .before .loop .i) (omega arith) (c .if4 .taken))

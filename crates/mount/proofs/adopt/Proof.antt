@@ -2,7 +2,7 @@
 use mathlib.Core.Path.{sym, _∙_}
 use Rattle.device.specs.Device.{dev}
 use Rattle.table.specs.State.{bufs}
-use Rattle.table.specs.Laws.{pool-rows}
+use Rattle.table.specs.InBuffers.{pool-rows}
 use Rattle.steps.specs.World.{lent}
 use Rattle.mount.proofs.Adopting.{twelve-rows, twelve-slots, stage-fits, ten, find-fits, accept-fits, refused, install-fits, drain-fits, adopted}
 use native.Mathlib.Omega.{arith}
@@ -23,8 +23,12 @@ sub-if2 c = omega (arith, c .before .before .before .before .before .before .bef
 
 returns-2 : tie.Need-returns-2
 returns-2 c =
-    let start = c .before .before .before .before .before .before .before .before in
-    twelve-slots (start .args .plan .now) (start .args .geometry) (start .args .k) (lent (dev (start .args .bytes .now) (start .args .phys .now) (start .args .place)) (bufs (start .args .pool) (start .args .nums .now) (start .args .names .now) (start .args .dirs .now))) (start .pre) (c .if2 .taken)
+    let after-start = c .before .before .before .before .before .before .before in
+    let start = after-start .before in
+    twelve-slots (start .args .plan .now) (start .args .geometry) (start .args .k)
+    (lent (dev (start .args .bytes .now) (start .args .phys .now) (start .args .place))
+    (bufs (start .args .pool) (start .args .nums .now) (start .args .names .now) (start .args .dirs .now))) (start .pre)
+    (c .if2 .taken)
 
 stage-requires : tie.Need-stage-requires
 stage-requires c κs =
@@ -120,7 +124,8 @@ install-requires c κs =
 
 drain-requires : tie.Need-drain-requires
 drain-requires c κs =
-    let at-install = c .before .before .before .before .before .before .before .before .before in
+    let after-install = c .before .before .before .before .before .before .before in
+    let at-install = after-install .before .before in
     let at-if4 = at-install .before .before .before in
     let at-accept = at-if4 .before .before .before .before .before .before .before in
     let at-later = at-accept .before .before .before .before in
@@ -130,7 +135,18 @@ drain-requires c κs =
     let at-if2 = at-stage .before .before .before .before .before in
     let at-if1 = at-if2 .before in
     let start = at-if1 .before .before .before .before .before .before .before in
-    drain-fits (start .args .plan .now) (start .args .geometry) (start .args .k) (lent (dev (start .args .bytes .now) (start .args .phys .now) (start .args .place)) (bufs (start .args .pool) (start .args .nums .now) (start .args .names .now) (start .args .dirs .now))) (start .pre) (omega (arith, at-if1 .if1 .left)) (omega (arith, at-if2 .if2 .left)) _ (at-stage .stage .ensures .0) (sym (at-stage .stage .ensures .1 .0) ∙ at-if3 .if3 .left) _ _ (at-stage .stage .ensures .1 .1 .1 .0 (at-if3 .if3 .left)) (at-stage .stage .ensures .1 .1 .1 .1 .0 (at-if3 .if3 .left)) _ _ (at-find-losers .find-losers .ensures .0) (at-find-losers .find-losers .ensures .1 .0) (at-find-losers .find-losers .ensures .1 .1) _ _ (at-stage .stage .ensures .1 .1 .0) (at-later .later .ensures) _ (at-accept .accept .ensures .0) (at-if4 .if4 .left) _ _ _ _ (at-accept .accept .ensures .1 .0) _ _ _ (at-install .install .ensures .0) (at-install .install .ensures .1 .0) (at-install .install .ensures .1 .1)
+    drain-fits (start .args .plan .now) (start .args .geometry) (start .args .k)
+    (lent (dev (start .args .bytes .now) (start .args .phys .now) (start .args .place))
+    (bufs (start .args .pool) (start .args .nums .now) (start .args .names .now) (start .args .dirs .now))) (start .pre)
+    (omega (arith, at-if1 .if1 .left)) (omega (arith, at-if2 .if2 .left)) _ (at-stage .stage .ensures .0)
+    (sym (at-stage .stage .ensures .1 .0) ∙ at-if3 .if3 .left) _ _
+    (at-stage .stage .ensures .1 .1 .1 .0 (at-if3 .if3 .left))
+    (at-stage .stage .ensures .1 .1 .1 .1 .0 (at-if3 .if3 .left)) _ _ (at-find-losers .find-losers .ensures .0)
+    (at-find-losers .find-losers .ensures .1 .0) (at-find-losers .find-losers .ensures .1 .1) _ _
+    (at-stage .stage .ensures .1 .1 .0) (at-later .later .ensures) _ (at-accept .accept .ensures .0)
+    (at-if4 .if4 .left) _ _ _ _ (at-accept .accept .ensures .1 .0) _ _ _
+    (at-install .install .ensures .0) (at-install .install .ensures .1 .0)
+    (at-install .install .ensures .1 .1)
 
 same-length-10 : tie.Need-same-length-10
 same-length-10 c = search needs
@@ -140,29 +156,47 @@ same-length-11 c = search needs
 
 same-length-12 : tie.Need-same-length-12
 same-length-12 c =
-    let at-drain = c .before .before .before .before .before .before .before .before .before .before in
-    let at-install = at-drain .before .before .before .before .before .before .before .before .before .before in
-    let at-accept = at-install .before .before .before .before .before .before .before .before .before .before in
-    let at-stage = at-accept .before .before .before .before .before .before .before .before .before .before .before .before .before .before .before in
-    at-drain .drain .kept .1 .1 .1 .1 .1 .0 ∙ at-install .install .kept .0 ∙ at-accept .accept .kept .0 ∙ at-stage .stage .kept .1 .1 .1 .1 .1 .0
+    let after-drain = c .before .before .before .before .before .before .before in
+    let at-drain = after-drain .before .before .before in
+    let after-install = at-drain .before .before .before .before .before .before .before in
+    let at-install = after-install .before .before .before in
+    let after-accept = at-install .before .before .before .before .before .before .before in
+    let at-accept = after-accept .before .before .before in
+    let after-stage-2 = at-accept .before .before .before .before .before .before .before in
+    let after-stage = after-stage-2 .before .before .before .before .before .before .before in
+    let at-stage = after-stage .before in
+    at-drain .drain .kept .1 .1 .1 .1 .1 .0 ∙ at-install .install .kept .0 ∙ at-accept .accept .kept .0
+    ∙ at-stage .stage .kept .1 .1 .1 .1 .1 .0
 
 same-length-13 : tie.Need-same-length-13
 same-length-13 c =
-    let at-drain = c .before .before .before .before .before .before .before .before .before .before in
-    let at-install = at-drain .before .before .before .before .before .before .before .before .before .before in
-    let at-accept = at-install .before .before .before .before .before .before .before .before .before .before in
-    let at-stage = at-accept .before .before .before .before .before .before .before .before .before .before .before .before .before .before .before in
-    at-drain .drain .kept .1 .1 .1 .1 .1 .1 .0 ∙ at-install .install .kept .1 .0 ∙ at-accept .accept .kept .1 .0 ∙ at-stage .stage .kept .1 .1 .1 .1 .1 .1 .0
+    let after-drain = c .before .before .before .before .before .before .before in
+    let at-drain = after-drain .before .before .before in
+    let after-install = at-drain .before .before .before .before .before .before .before in
+    let at-install = after-install .before .before .before in
+    let after-accept = at-install .before .before .before .before .before .before .before in
+    let at-accept = after-accept .before .before .before in
+    let after-stage-2 = at-accept .before .before .before .before .before .before .before in
+    let after-stage = after-stage-2 .before .before .before .before .before .before .before in
+    let at-stage = after-stage .before in
+    at-drain .drain .kept .1 .1 .1 .1 .1 .1 .0 ∙ at-install .install .kept .1 .0 ∙ at-accept .accept .kept .1 .0
+    ∙ at-stage .stage .kept .1 .1 .1 .1 .1 .1 .0
 
 same-length-14 : tie.Need-same-length-14
 same-length-14 c =
-    let at-accept = c .before .before .before .before .before .before .before .before .before .before .before .before .before .before .before .before .before .before .before .before .before .before .before .before .before .before .before .before .before .before in
+    let after-accept-4 = c .before .before .before .before .before .before .before in
+    let after-accept-3 = after-accept-4 .before .before .before .before .before .before .before in
+    let after-accept-2 = after-accept-3 .before .before .before .before .before .before .before in
+    let after-accept = after-accept-2 .before .before .before .before .before .before .before in
+    let at-accept = after-accept .before .before in
     at-accept .accept .kept .1 .1 .0
 
 returns-5 : tie.Need-returns-5
 returns-5 c =
-    let at-drain = c .before .before .before .before .before .before .before .before .before .before in
-    let at-install = at-drain .before .before .before .before .before .before .before .before .before .before in
+    let after-drain = c .before .before .before .before .before .before .before in
+    let at-drain = after-drain .before .before .before in
+    let after-install = at-drain .before .before .before .before .before .before .before in
+    let at-install = after-install .before .before .before in
     let at-if4 = at-install .before .before .before in
     let at-accept = at-if4 .before .before .before .before .before .before .before in
     let at-later = at-accept .before .before .before .before in
@@ -172,7 +206,18 @@ returns-5 c =
     let at-if2 = at-stage .before .before .before .before .before in
     let at-if1 = at-if2 .before in
     let start = at-if1 .before .before .before .before .before .before .before in
-    adopted (start .args .plan .now) (start .args .geometry) (start .args .k) (lent (dev (start .args .bytes .now) (start .args .phys .now) (start .args .place)) (bufs (start .args .pool) (start .args .nums .now) (start .args .names .now) (start .args .dirs .now))) (start .pre) (omega (arith, at-if1 .if1 .left)) (omega (arith, at-if2 .if2 .left)) _ (at-stage .stage .ensures .0) (sym (at-stage .stage .ensures .1 .0) ∙ at-if3 .if3 .left) _ _ (at-stage .stage .ensures .1 .1 .1 .0 (at-if3 .if3 .left)) (at-stage .stage .ensures .1 .1 .1 .1 .0 (at-if3 .if3 .left)) _ _ (at-find-losers .find-losers .ensures .0) (at-find-losers .find-losers .ensures .1 .0) (at-find-losers .find-losers .ensures .1 .1) _ _ (at-stage .stage .ensures .1 .1 .0) (at-later .later .ensures) _ (at-accept .accept .ensures .0) (at-if4 .if4 .left) _ _ _ _ (at-accept .accept .ensures .1 .0) _ _ _ (at-install .install .ensures .0) (at-install .install .ensures .1 .0) (at-install .install .ensures .1 .1) _ (at-drain .drain .ensures)
+    adopted (start .args .plan .now) (start .args .geometry) (start .args .k)
+    (lent (dev (start .args .bytes .now) (start .args .phys .now) (start .args .place))
+    (bufs (start .args .pool) (start .args .nums .now) (start .args .names .now) (start .args .dirs .now))) (start .pre)
+    (omega (arith, at-if1 .if1 .left)) (omega (arith, at-if2 .if2 .left)) _ (at-stage .stage .ensures .0)
+    (sym (at-stage .stage .ensures .1 .0) ∙ at-if3 .if3 .left) _ _
+    (at-stage .stage .ensures .1 .1 .1 .0 (at-if3 .if3 .left))
+    (at-stage .stage .ensures .1 .1 .1 .1 .0 (at-if3 .if3 .left)) _ _ (at-find-losers .find-losers .ensures .0)
+    (at-find-losers .find-losers .ensures .1 .0) (at-find-losers .find-losers .ensures .1 .1) _ _
+    (at-stage .stage .ensures .1 .1 .0) (at-later .later .ensures) _ (at-accept .accept .ensures .0)
+    (at-if4 .if4 .left) _ _ _ _ (at-accept .accept .ensures .1 .0) _ _ _
+    (at-install .install .ensures .0) (at-install .install .ensures .1 .0)
+    (at-install .install .ensures .1 .1) _ (at-drain .drain .ensures)
 
 pub adopt-spec : {M : Type 1} → statement M
 adopt-spec =

@@ -21,7 +21,9 @@ abbrev μ-loop : tie.MeasureT-loop
 μ-loop bytes₀ phys₀ geometry plan nums₀ names₀ dirs count losers at₀ q₀ i₀ bytes phys nums names at q i = count - i
 
 loop-holds : tie.Need-loop-holds Inv-loop μ-loop
-loop-holds c = (omega arith, draining-start _ _ _ _ (c .before .before .before .before .before .before .pre .0) (c .before .before .before .before .before .before .pre .1 .1), refl, refl, refl, refl)
+loop-holds c =
+    let at-start = c .before .before .before .before .before .before in
+    (omega arith, draining-start _ _ _ _ (at-start .pre .0) (at-start .pre .1 .1), refl, refl, refl, refl)
 
 array-read-loser : tie.Need-array-read-loser Inv-loop μ-loop
 array-read-loser c = omega arith
@@ -31,20 +33,66 @@ cast-loser c = search needs
 
 release-requires : tie.Need-release-requires Inv-loop μ-loop
 release-requires c κs =
-    let w : length (c .before .before .before .before .before .before .before .before .before .before .before .before .args .t10) ≡ 64 = search needs in
-    draining-first _ _ (c .before .before .before .before .before .before .before .before .before .before .before .before .args .t10) _ _ _ _ (c .before .before .before .before .before .loop .inv .1) (omega arith) (c .before .before .before .before .loop-test .taken)
+    let w : (let at-loop = c .before .before .before .before .before in
+    let at-start = at-loop .before .before .before .before .before .before .before in
+    length (at-start .args .t10) ≡ 64) = search needs in
+    let at-loop = c .before .before .before .before .before in
+    let at-start = at-loop .before .before .before .before .before .before .before in
+    draining-first _ _ (at-start .args .t10) _ _ _ _ (at-loop .loop .inv .1) (omega arith)
+    (c .before .before .before .before .loop-test .taken)
 
 add-i : tie.Need-add-i Inv-loop μ-loop
-add-i c = omega (arith, c .before .before .before .before .before .before .before .before .before .before .before .before .before .before .before .loop-test .taken, c .before .before .before .before .before .before .before .before .before .before .before .before .before .before .before .before .before .before .before .before .before .before .before .fits .count)
+add-i c = omega (
+  arith,
+  (let after-loop-test-2 = c .before .before .before .before .before .before .before in
+      let after-loop-test = after-loop-test-2 .before .before .before .before .before .before .before in
+      after-loop-test .before .loop-test .taken),
+  (let after-start-3 = c .before .before .before .before .before .before .before in
+      let after-start-2 = after-start-3 .before .before .before .before .before .before .before in
+      let after-start = after-start-2 .before .before .before .before .before .before .before in
+      after-start .before .before .fits .count),
+)
 
 loop-less : tie.Need-loop-less Inv-loop μ-loop
-loop-less c = omega (arith, c .before .before .before .before .before .before .before .before .before .before .before .before .before .before .before .loop-test .taken, c .before .before .before .before .before .before .before .before .before .before .before .before .before .before .before .before .before .before .before .before .before .before .before .fits .count)
+loop-less c = omega (
+  arith,
+  (let after-loop-test-2 = c .before .before .before .before .before .before .before in
+      let after-loop-test = after-loop-test-2 .before .before .before .before .before .before .before in
+      after-loop-test .before .loop-test .taken),
+  (let after-start-3 = c .before .before .before .before .before .before .before in
+      let after-start-2 = after-start-3 .before .before .before .before .before .before .before in
+      let after-start = after-start-2 .before .before .before .before .before .before .before in
+      after-start .before .before .fits .count),
+)
 
 loop-again : tie.Need-loop-again Inv-loop μ-loop
 loop-again c =
-    let w : length (c .before .before .before .before .before .before .before .before .before .before .before .before .before .before .before .before .before .before .before .before .before .before .before .args .t10) ≡ 64 = search (needs, c .before .before .before .before .before .before .before .before .before .before .before .before .before .before .before .before .before .before .before .before .before .before .before .good) in
-    let d = draining-more _ _ (c .before .before .before .before .before .before .before .before .before .before .before .before .before .before .before .before .before .before .before .before .before .before .before .args .t10) _ _ _ _ (c .before .before .before .before .before .before .before .before .before .before .before .before .before .before .before .before .loop .inv .1) (omega (arith, c .before .before .before .before .before .before .before .before .before .before .before .before .before .before .before .before .before .before .before .before .before .before .before .pre .1 .0)) (c .before .before .before .before .before .before .before .before .before .before .before .before .before .before .before .loop-test .taken) _ (c .before .before .before .before .before .before .before .before .before .before .release .ensures) in
-    (omega (arith, c .before .before .before .before .before .before .before .before .before .before .before .before .before .before .before .loop-test .taken), d, c .before .before .before .before .before .before .before .before .before .before .release .kept .0 ∙ c .before .before .before .before .before .before .before .before .before .before .before .before .before .before .before .before .loop .inv .2, c .before .before .before .before .before .before .before .before .before .before .release .kept .1 .0 ∙ c .before .before .before .before .before .before .before .before .before .before .before .before .before .before .before .before .loop .inv .3, c .before .before .before .before .before .before .before .before .before .before .release .kept .1 .1 .1 .1 .1 .0 ∙ c .before .before .before .before .before .before .before .before .before .before .before .before .before .before .before .before .loop .inv .4, c .before .before .before .before .before .before .before .before .before .before .release .kept .1 .1 .1 .1 .1 .1 .0 ∙ c .before .before .before .before .before .before .before .before .before .before .before .before .before .before .before .before .loop .inv .5)
+    let w : (let after-release = c .before .before .before .before .before .before .before in
+    let at-release = after-release .before .before .before in
+    let at-loop = at-release .before .before .before .before .before .before in
+    let at-start = at-loop .before .before .before .before .before .before .before in
+    length (at-start .args .t10) ≡ 64) = search (
+      needs,
+      (let after-release = c .before .before .before .before .before .before .before in
+          let at-release = after-release .before .before .before in
+          let at-loop = at-release .before .before .before .before .before .before in
+          let at-start = at-loop .before .before .before .before .before .before .before in
+          at-start .good),
+    ) in
+    let after-release = c .before .before .before .before .before .before .before in
+    let at-release = after-release .before .before .before in
+    let at-loop-test = at-release .before .before .before .before .before in
+    let at-loop = at-loop-test .before in
+    let at-start = at-loop .before .before .before .before .before .before .before in
+    let d = draining-more _ _ (at-start .args .t10) _ _ _ _ (at-loop .loop .inv .1) (omega (arith, at-start .pre .1 .0))
+    (at-loop-test .loop-test .taken) _ (at-release .release .ensures) in (
+      omega (arith, at-loop-test .loop-test .taken),
+      d,
+      at-release .release .kept .0 ∙ at-loop .loop .inv .2,
+      at-release .release .kept .1 .0 ∙ at-loop .loop .inv .3,
+      at-release .release .kept .1 .1 .1 .1 .1 .0 ∙ at-loop .loop .inv .4,
+      at-release .release .kept .1 .1 .1 .1 .1 .1 .0 ∙ at-loop .loop .inv .5,
+    )
 
 same-length : tie.Need-same-length Inv-loop μ-loop
 same-length c = c .before .loop .inv .2
@@ -60,8 +108,13 @@ same-length-4 c = c .before .loop .inv .5
 
 returns : tie.Need-returns Inv-loop μ-loop
 returns c =
-    let w : length (c .before .before .before .before .before .before .before .before .args .t10) ≡ 64 = search needs in
-    draining-done _ _ (c .before .before .before .before .before .before .before .before .args .t10) (c .before .before .before .before .before .before .before .before .args .count) _ _ (c .before .loop .i) (c .before .loop .inv .1) (omega arith) (omega arith)
+    let w : (let at-loop = c .before in
+    let at-start = at-loop .before .before .before .before .before .before .before in
+    length (at-start .args .t10) ≡ 64) = search needs in
+    let at-loop = c .before in
+    let at-start = at-loop .before .before .before .before .before .before .before in
+    draining-done _ _ (at-start .args .t10) (at-start .args .count) _ _ (at-loop .loop .i) (at-loop .loop .inv .1) (omega arith)
+    (omega arith)
 
 pub drain-spec : {M : Type 1} → statement M
 drain-spec =

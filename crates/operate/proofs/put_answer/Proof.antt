@@ -3,9 +3,9 @@ use mathlib.Core.Path.{_∙_, ap}
 use mathlib.Core.List.{List}
 use Prim.Native.Nat.{ℕ, _+_, _≤_}
 use Rattle.le.specs.Le.{le}
-use Rattle.reader.specs.Laws.{Small, small}
+use Rattle.reader.specs.Reading.{Small, small}
 use Rattle.writer.specs.Writer.{shown, pours}
-use Rattle.writer.specs.Laws.{after-pours, pours-then}
+use Rattle.writer.proofs.InParts.{after-pours, pours-then}
 use Rattle.operate.proofs.Ways.{answer-is, near}
 use native.Mathlib.Omega.{arith}
 use borrow.Author.Needs.{needs}

@@ -19,7 +19,9 @@ loop-holds : tie.Need-loop-holds Inv-loop μ-loop
 loop-holds c = picking-start _ _ _ _
 
 dir-span-requires : tie.Need-dir-span-requires Inv-loop μ-loop
-dir-span-requires c κs = (c .before .before .before .before .pre .0, c .loop-test .taken, c .before .before .before .before .pre .1)
+dir-span-requires c κs =
+    let at-start = c .before .before .before .before in
+    (at-start .pre .0, c .loop-test .taken, at-start .pre .1)
 
 mul-spans : tie.Need-mul-spans Inv-loop μ-loop
 mul-spans c = omega (arith, c .before .before .loop .inv .long)

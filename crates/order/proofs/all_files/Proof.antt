@@ -24,7 +24,9 @@ is-bound-requires : tie.Need-is-bound-requires Inv-loop μ-loop
 is-bound-requires c κs = (c .before .before .before .before .before .pre .0, c .loop-test .taken)
 
 file-span-requires : tie.Need-file-span-requires Inv-loop μ-loop
-file-span-requires c κs = (c .before .before .before .before .before .before .before .pre .0, c .before .before .loop-test .taken, c .before .before .before .before .before .before .before .pre .1)
+file-span-requires c κs =
+    let at-start = c .before .before .before .before .before .before .before in
+    (at-start .pre .0, c .before .before .loop-test .taken, at-start .pre .1)
 
 mul-spans : tie.Need-mul-spans Inv-loop μ-loop
 mul-spans c = omega (arith, c .before .before .before .before .loop .inv .few, c .before .before .before .before .loop .inv .long)

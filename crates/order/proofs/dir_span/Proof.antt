@@ -2,7 +2,8 @@
 use Prim.Native.Nat.{_+_, _*_}
 use mathlib.Core.Path.{sym, ap, _∙_}
 use lib.ListN.{length}
-use Rattle.dirs.specs.RowLaws.{dir-short}
+use Rattle.limits.specs.Limits.{dirWidth}
+use Rattle.dirs.proofs.InBuffer.{dir-short}
 use Rattle.order.specs.Spans.{span, dirSpan}
 use Rattle.order.specs.Picks.{row-spells}
 use native.Mathlib.Omega.{arith}
@@ -26,7 +27,7 @@ returns : tie.Need-returns
 unfolding dirSpan
 returns c =
     let a = c .before .before .before .args in
-    c .span .ensures ∙ ap (span (a .j * 482 + 2)) (c .before .dir-len .ensures ∙ sym (ap length (row-spells (a .m) (a .dirs .now) (c .before .before .before .pre .0) (a .j) (c .before .before .before .pre .1))))
+    c .span .ensures ∙ ap (span (a .j * dirWidth + 2)) (c .before .dir-len .ensures ∙ sym (ap length (row-spells (a .m) (a .dirs .now) (c .before .before .before .pre .0) (a .j) (c .before .before .before .pre .1))))
 
 pub dir-span-spec : {M : Type 1} → statement M
 dir-span-spec = tie.close (tie.spec dir-len-requires mul-span add-span span-requires returns)

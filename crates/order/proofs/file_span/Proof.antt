@@ -1,6 +1,7 @@
 -- The length is that of the row's path.
 use Prim.Native.Nat.{_*_}
 use mathlib.Core.Path.{ap, _∙_}
+use Rattle.limits.specs.Limits.{maxPath}
 use Rattle.order.specs.Spans.{span, fileSpan}
 use native.Mathlib.Omega.{arith}
 use borrow.Author.Needs.{needs}
@@ -18,7 +19,7 @@ span-requires c κs = omega (arith, c .path-len .ensures, c .before .before .bef
 
 returns : tie.Need-returns
 unfolding fileSpan
-returns c = c .span .ensures ∙ ap (span (c .before .before .before .before .args .i * 480)) (c .before .path-len .ensures)
+returns c = c .span .ensures ∙ ap (span (c .before .before .before .before .args .i * maxPath)) (c .before .path-len .ensures)
 
 pub file-span-spec : {M : Type 1} → statement M
 file-span-spec = tie.close (tie.spec path-len-requires mul-span span-requires returns)

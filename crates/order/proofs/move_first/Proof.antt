@@ -42,7 +42,13 @@ loop-less : tie.Need-loop-less Inv-loop μ-loop
 loop-less c = omega arith
 
 loop-again : tie.Need-loop-again Inv-loop μ-loop
-loop-again c = (omega arith, simp length-set (c .before .before .loop .inv .1), move-on (c .before .before .before .before .args .spans .now) (c .before .before .loop .spans) (c .before .before .loop .j) (c .before .before .before .before .args .k) (omega arith) (omega arith) (c .before .before .loop .inv .2))
+loop-again c =
+    let at-start = c .before .before .before .before in (
+      omega arith,
+      simp length-set (c .before .before .loop .inv .1),
+      move-on (at-start .args .spans .now) (c .before .before .loop .spans)
+          (c .before .before .loop .j) (at-start .args .k) (omega arith) (omega arith) (c .before .before .loop .inv .2),
+    )
 
 mul-spans-3 : tie.Need-mul-spans-3 Inv-loop μ-loop
 mul-spans-3 c = omega arith

@@ -3,7 +3,7 @@ use Prim.Native.Nat.{_-_}
 use mathlib.Core.Path.{sym, _∙_}
 use lib.ListN.{getD, drop, length-drop}
 use Rattle.order.specs.Spans.{before}
-use Rattle.order.specs.Laws.{before-levels, inside-get}
+use Rattle.order.specs.InOrder.{before-levels, inside-get}
 use Rattle.order.proofs.Turns.{Narrow, narrow-start, narrow-end, narrow-down, narrow-up, behind}
 use native.Mathlib.Omega.{arith}
 use Rattle.order.proofs.place_of.Statement.{statement}
@@ -40,22 +40,41 @@ shared-slice-read-comes-before : tie.Need-shared-slice-read-comes-before Inv-loo
 shared-slice-read-comes-before c = omega (arith, c .before .before .loop .inv .fits, length-drop 1 (c .before .before .before .before .before .before .args .spans .now))
 
 comes-before-requires : tie.Need-comes-before-requires Inv-loop μ-loop
-comes-before-requires c κs = (inside-get _ _ _ (c .before .before .before .before .before .before .pre .0) (c .before .before .before .before .before .before .pre .1), inside-get _ _ _ (c .before .before .before .before .before .before .pre .0) (omega (arith, c .before .before .loop .inv .fits, length-drop 1 (c .before .before .before .before .before .before .args .spans .now))))
+comes-before-requires c κs =
+    let at-start = c .before .before .before .before .before .before in (
+      inside-get _ _ _ (at-start .pre .0) (at-start .pre .1),
+      inside-get _ _ _ (at-start .pre .0)
+          (omega (arith, c .before .before .loop .inv .fits, length-drop 1 (at-start .args .spans .now))),
+    )
 
 loop-less : tie.Need-loop-less Inv-loop μ-loop
 loop-less c = omega arith
 
 loop-again : tie.Need-loop-again Inv-loop μ-loop
-loop-again c = narrow-down _ _ _ (before-levels _) (c .before .before .before .before .before .before .before .before .pre .2) _ _ _ (c .before .before .before .before .loop .inv) (omega arith) (omega arith) (behind (c .before .before .before .before .before .before .before .before .args .bytes .now) (c .before .before .before .before .before .before .before .before .args .spans .now) _ (sym (c .before .comes-before .ensures) ∙ c .if1 .taken))
+loop-again c =
+    let at-loop = c .before .before .before .before in
+    let at-start = at-loop .before .before .before .before in
+    narrow-down _ _ _ (before-levels _) (at-start .pre .2) _ _ _ (at-loop .loop .inv) (omega arith) (omega arith)
+    (behind (at-start .args .bytes .now) (at-start .args .spans .now) _ (sym (c .before .comes-before .ensures) ∙ c .if1 .taken))
 
 add-low : tie.Need-add-low Inv-loop μ-loop
-add-low c = omega (arith, c .before .before .before .before .loop .inv .fits, length-drop 1 (c .before .before .before .before .before .before .before .before .args .spans .now))
+add-low c = omega (
+  arith,
+  c .before .before .before .before .loop .inv .fits,
+  (let at-loop = c .before .before .before .before in
+      let at-start = at-loop .before .before .before .before in
+      length-drop 1 (at-start .args .spans .now)),
+)
 
 loop-less-2 : tie.Need-loop-less-2 Inv-loop μ-loop
 loop-less-2 c = omega arith
 
 loop-again-2 : tie.Need-loop-again-2 Inv-loop μ-loop
-loop-again-2 c = narrow-up _ _ _ (before-levels _) (c .before .before .before .before .before .before .before .before .pre .2) _ _ _ (c .before .before .before .before .loop .inv) (omega arith) (omega arith) (behind (c .before .before .before .before .before .before .before .before .args .bytes .now) (c .before .before .before .before .before .before .before .before .args .spans .now) _ (sym (c .before .comes-before .ensures) ∙ c .if1 .left))
+loop-again-2 c =
+    let at-loop = c .before .before .before .before in
+    let at-start = at-loop .before .before .before .before in
+    narrow-up _ _ _ (before-levels _) (at-start .pre .2) _ _ _ (at-loop .loop .inv) (omega arith) (omega arith)
+    (behind (at-start .args .bytes .now) (at-start .args .spans .now) _ (sym (c .before .comes-before .ensures) ∙ c .if1 .left))
 
 returns : tie.Need-returns Inv-loop μ-loop
 returns c = narrow-end _ _ _ _ _ (c .before .loop .inv) (c .loop-test .left)

@@ -61,9 +61,13 @@ loop-less c = omega arith
 
 loop-again : tie.Need-loop-again Inv-loop μ-loop
 loop-again c =
-    let l = c .before .before .before .before .before .before .before .before .loop in
-    let t = sort-turn _ _ _ (l .i) _ (omega arith) (omega arith) (l .inv .2) _ (c .before .before .before .before .place-of .ensures) _ _ (c .before .before .move-first .ensures) refl in
-    (omega arith, sorted-long (c .before .before .before .before .before .before .before .before .before .before .before .args .bytes .now) (c .before .before .before .before .before .before .before .before .before .before .before .args .spans .now) _ (l .i - 1) t, t)
+    let at-place-of = c .before .before .before .before in
+    let at-loop = at-place-of .before .before .before .before in
+    let at-start = at-loop .before .before .before in
+    let l = at-loop .loop in
+    let t = sort-turn _ _ _ (l .i) _ (omega arith) (omega arith) (l .inv .2) _ (at-place-of .place-of .ensures) _ _
+    (c .before .before .move-first .ensures) refl in
+    (omega arith, sorted-long (at-start .args .bytes .now) (at-start .args .spans .now) _ (l .i - 1) t, t)
 
 same-length : tie.Need-same-length Inv-loop μ-loop
 same-length c = c .before .loop .inv .1

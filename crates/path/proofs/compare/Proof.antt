@@ -95,29 +95,38 @@ compare-names-requires c κs = omega arith
 
 returns-4 : tie.Need-returns-4 Inv-loop μ-loop
 returns-4 c =
-    let next = c .before .before .before .before .before .before .before .before .before .before .before .before .before .before .next in
-    let next2 = c .before .before .before .before .before .before .before .before .before .before .before .before .before .next2 in
-    let loop = c .before .before .before .before .before .before .before .before .before .before .before .before .before .before .before .loop in
-    let if1 = c .before .before .before .before .before .before .before .before .before .before .before .before .if1 in
-    let if3 = c .before .before .before .before .before .before .before .before .before .before .before .if3 in
+    let at-if4 = c .before .before .before .before .before .before .before in
+    let at-same-bytes = at-if4 .before in
+    let at-if1 = at-same-bytes .before .before .before .before in
+    let next = at-if1 .before .before .next in
+    let next2 = at-if1 .before .next2 in
+    let loop = at-if1 .before .before .before .loop in
+    let if1 = at-if1 .if1 in
+    let if3 = at-same-bytes .before .before .before .if3 in
     let next3 = c .before .before .before .before .before .before .next3 in
     let next4 = c .before .before .before .before .before .next4 in
-    let same-bytes = c .before .before .before .before .before .before .before .before .same-bytes in
-    let if4 = c .before .before .before .before .before .before .before .if4 in
+    let same-bytes = at-same-bytes .same-bytes in
+    let if4 = at-if4 .if4 in
     c .compare-names .ensures
-    ∙ cmp-differ _ _ _ _ _ _ _ _ (next .ensures) (next2 .ensures) _ (loop .inv .2 .1) (if1 .left) (if3 .left) _ _ _ _ (next3 .ensures) (next4 .ensures) (sym (same-bytes .ensures) ∙ not-true _ (if4 .taken))
+    ∙ cmp-differ _ _ _ _ _ _ _ _ (next .ensures) (next2 .ensures) _ (loop .inv .2 .1) (if1 .left) (if3 .left) _ _ _ _ (next3 .ensures)
+    (next4 .ensures) (sym (same-bytes .ensures) ∙ not-true _ (if4 .taken))
 
 loop-less : tie.Need-loop-less Inv-loop μ-loop
 loop-less c = omega arith
 
 loop-again : tie.Need-loop-again Inv-loop μ-loop
 loop-again c =
-    let next = c .before .before .before .before .before .before .before .next in
+    let at-next = c .before .before .before .before .before .before .before in
+    let next = at-next .next in
     let next2 = c .before .before .before .before .before .before .next2 in
-    let loop = c .before .before .before .before .before .before .before .before .loop in
+    let loop = at-next .before .loop in
     let if1 = c .before .before .before .before .before .if1 in
-    let if3 = c .before .before .before .before .if3 in
-    (omega arith, omega arith, cmp-on _ _ _ _ _ _ _ _ (next .ensures) (next2 .ensures) _ (loop .inv .2 .1) (if1 .left) (if3 .left) (sym (c .before .same-bytes .ensures) ∙ not-false _ (c .if4 .left)))
+    let if3 = c .before .before .before .before .if3 in (
+      omega arith,
+      omega arith,
+      cmp-on _ _ _ _ _ _ _ _ (next .ensures) (next2 .ensures) _ (loop .inv .2 .1) (if1 .left) (if3 .left)
+          (sym (c .before .same-bytes .ensures) ∙ not-false _ (c .if4 .left)),
+    )
 
 pub compare-spec : {M : Type 1} → statement M
 compare-spec =

@@ -57,8 +57,9 @@ shared-slice-read-if5-2 c = omega arith
 
 returns-5 : tie.Need-returns-5 Inv-loop μ-loop
 returns-5 c =
-    let args = c .before .before .before .before .before .before .before .before .before .args in
-    let loop = c .before .before .before .before .before .before .before .before .loop in
+    let after-loop = c .before .before .before .before .before .before .before in
+    let args = after-loop .before .before .args in
+    let loop = after-loop .before .loop in
     let s = names-both (args .more-a) (args .more-b) (args .a .now) (args .b .now) (loop .i) (omega arith) (omega arith) in
     sym (loop .inv .2 ∙ s ∙ rw (nat-greater _ _ (c .if5 .taken)))
 
@@ -70,10 +71,12 @@ loop-less c = omega arith
 
 loop-again : tie.Need-loop-again Inv-loop μ-loop
 loop-again c =
-    let args = c .before .before .before .before .before .before .before .before .before .args in
-    let loop = c .before .before .before .before .before .before .before .before .loop in
+    let at-if4 = c .before .before .before in
+    let at-loop = at-if4 .before .before .before .before .before in
+    let args = at-loop .before .args in
+    let loop = at-loop .loop in
     let s = names-both (args .more-a) (args .more-b) (args .a .now) (args .b .now) (loop .i) (omega arith) (omega arith) in
-    (omega arith, omega arith, loop .inv .2 ∙ s ∙ rw (nat-same _ _ (c .before .before .before .if4 .left) (c .if5 .left)))
+    (omega arith, omega arith, loop .inv .2 ∙ s ∙ rw (nat-same _ _ (at-if4 .if4 .left) (c .if5 .left)))
 
 returns-6 : tie.Need-returns-6 Inv-loop μ-loop
 returns-6 c =

@@ -46,7 +46,12 @@ loop-less : tie.Need-loop-less Inv-loop μ-loop
 loop-less c = omega arith
 
 loop-again : tie.Need-loop-again Inv-loop μ-loop
-loop-again c = (omega arith, turn (c .before .before .before .before .before .before .before .before .args .s .now) (c .before .before .before .before .before .loop .j) (c .before .before .before .before .before .loop .bad) _ (omega arith) (c .before .before .before .before .before .loop .inv .1) (c .idle-slash .ensures))
+loop-again c =
+    let at-loop = c .before .before .before .before .before in (
+      omega arith,
+      turn (at-loop .before .before .before .args .s .now) (at-loop .loop .j) (at-loop .loop .bad) _ (omega arith)
+          (at-loop .loop .inv .1) (c .idle-slash .ensures),
+    )
 
 shared-slice-read-idle-slash-4 : tie.Need-shared-slice-read-idle-slash-4 Inv-loop μ-loop
 shared-slice-read-idle-slash-4 c = omega arith
@@ -67,7 +72,10 @@ shared-slice-read-result : tie.Need-shared-slice-read-result Inv-loop μ-loop
 shared-slice-read-result c = omega arith
 
 returns-2 : tie.Need-returns-2 Inv-loop μ-loop
-returns-2 c = end (c .before .before .before .before .before .before .before .before .args .s .now) (c .before .before .before .before .before .loop .j) (c .before .before .before .before .before .loop .bad) _ (omega arith) (omega arith) (c .before .before .before .before .before .loop .inv .1) (c .before .idle-slash2 .ensures)
+returns-2 c =
+    let at-loop = c .before .before .before .before .before in
+    end (at-loop .before .before .before .args .s .now) (at-loop .loop .j) (at-loop .loop .bad) _ (omega arith) (omega arith)
+    (at-loop .loop .inv .1) (c .before .idle-slash2 .ensures)
 
 pub is-normal-spec : {M : Type 1} → statement M
 is-normal-spec =

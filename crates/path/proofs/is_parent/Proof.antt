@@ -33,9 +33,10 @@ returns c = parent-none _ _ (subst (λ (x : Found). UpOf (now (c .before .before
 
 returns-2 : tie.Need-returns-2
 returns-2 c =
-    let args = c .before .before .before .before .before .before .before .before .args in
+    let at-parent-end = c .before .before .before .before .before in
+    let args = at-parent-end .before .before .before .args in
     let up = c .before .before .before .up in
-    let parent-end = c .before .before .before .before .before .parent-end in
+    let parent-end = at-parent-end .parent-end in
     c .same-path .ensures ∙ parent-some _ _ _ (subst (λ (x : Found). UpOf (now (args .file)) x) (up .given .1) (parent-end .ensures))
 
 pub is-parent-spec : {M : Type 1} → statement M

@@ -56,10 +56,12 @@ add-if4 c = omega (arith, c .before .part-start .ensures .inside)
 
 returns-3 : tie.Need-returns-3 Inv-loop μ-loop
 returns-3 c =
-    let loop = c .before .before .before .before .before .before .loop in
-    let s = c .before .before .before .before .before .before .before .before .args .s .now in
+    let at-loop = c .before .before .before .before .before .before in
+    let loop = at-loop .loop in
+    let s = at-loop .before .before .args .s .now in
     let p = c .before .before .part-start in
-    let h = starts-some s (loop .e) (p .result) (p .ensures) (c .before .before .before .before .before .loop-test .taken) (c .before .before .before .if1 .left) in
+    let h = starts-some s (loop .e) (p .result) (p .ensures) (c .before .before .before .before .before .loop-test .taken)
+    (c .before .before .before .if1 .left) in
     last-name s (p .result) (loop .e) (loop .inv .1) (p .ensures) (loop .inv .0) h (c .before .if3 .left)
     (idle-long s (p .result) (loop .e) h (loop .inv .0) (c .if4 .taken))
 
@@ -68,9 +70,11 @@ shared-slice-read-if5 c = omega arith
 
 returns-4 : tie.Need-returns-4 Inv-loop μ-loop
 returns-4 c =
-    let loop = c .before .before .before .before .before .before .before .before .loop in
-    let s = c .before .before .before .before .before .before .before .before .before .before .args .s .now in
-    let p = c .before .before .before .before .part-start in
+    let at-part-start = c .before .before .before .before in
+    let at-loop = at-part-start .before .before .before .before in
+    let loop = at-loop .loop in
+    let s = at-loop .before .before .args .s .now in
+    let p = at-part-start .part-start in
     last-name s (p .result) (loop .e) (loop .inv .1) (p .ensures) (loop .inv .0) (omega arith) (c .before .before .before .if3 .left)
     (idle-byte s (p .result) (loop .e) (omega arith) (c .before .before .if4 .left) (c .if5 .taken))
 
@@ -79,9 +83,11 @@ loop-less-2 c = omega arith
 
 loop-again-2 : tie.Need-loop-again-2 Inv-loop μ-loop
 loop-again-2 c =
-    let loop = c .before .before .before .before .before .before .before .before .loop in
-    let s = c .before .before .before .before .before .before .before .before .before .before .args .s .now in
-    let p = c .before .before .before .before .part-start in (
+    let at-part-start = c .before .before .before .before in
+    let at-loop = at-part-start .before .before .before .before in
+    let loop = at-loop .loop in
+    let s = at-loop .before .before .args .s .now in
+    let p = at-part-start .part-start in (
       omega arith,
       loop .inv .1 ∙ back-dot s (p .result) (loop .e) (p .ensures) (loop .inv .0) (omega arith)
           (idle-dot s (p .result) (loop .e) (omega arith) (c .before .before .if4 .left) (c .if5 .left)),

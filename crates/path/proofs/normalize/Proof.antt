@@ -44,12 +44,14 @@ part-put-end c = omega arith
 
 put-requires : tie.Need-put-requires Inv-loop μ-loop
 put-requires c κs =
-    let next = c .before .before .before .before .before .before .before .next in
-    let pre = c .before .before .before .before .before .before .before .before .before .before .before .pre in
-    let loop = c .before .before .before .before .before .before .before .before .loop in
+    let at-next = c .before .before .before .before .before .before .before in
+    let at-start = at-next .before .before .before .before in
+    let next = at-next .next in
+    let pre = at-start .pre in
+    let loop = at-next .before .loop in
     let if1 = c .before .before .before .before .before .before .if1 in
     let put-slash = c .before .before .before .before .put-slash in
-    let args = c .before .before .before .before .before .before .before .before .before .before .before .args in
+    let args = at-start .args in
     let t = normal-turn _ _ _ _ _ _ _ _ (loop .inv .2) (next .ensures) (if1 .left) in
     let u = writing-more _ _ t pre _ _ (put-slash .ensures) in
     let p = next .result in
@@ -63,12 +65,15 @@ loop-less c = omega arith
 
 loop-again : tie.Need-loop-again Inv-loop μ-loop
 loop-again c =
-    let pre = c .before .before .before .before .before .before .before .before .before .before .before .before .before .before .before .pre in
-    let loop = c .before .before .before .before .before .before .before .before .before .before .before .before .loop in
-    let next = c .before .before .before .before .before .before .before .before .before .before .before .next in
-    let if1 = c .before .before .before .before .before .before .before .before .before .before .if1 in
-    let put-slash = c .before .before .before .before .before .before .before .before .put-slash in
-    let put = c .before .before .before .put in
+    let at-put = c .before .before .before in
+    let at-put-slash = at-put .before .before .before .before .before in
+    let at-loop = at-put-slash .before .before .before .before in
+    let pre = at-loop .before .before .before .pre in
+    let loop = at-loop .loop in
+    let next = at-put-slash .before .before .before .next in
+    let if1 = at-put-slash .before .before .if1 in
+    let put-slash = at-put-slash .put-slash in
+    let put = at-put .put in
     let t = normal-turn _ _ _ _ _ _ _ _ (loop .inv .2) (next .ensures) (if1 .left) in
     let u = writing-more _ _ t pre _ _ (put-slash .ensures) in
     let v = writing-more _ _ u pre _ _ (put .ensures) in

@@ -27,10 +27,12 @@ slice-aggregate-normalize c =
 
 normalize-requires : tie.Need-normalize-requires
 normalize-requires c κs =
-    let args = c .before .before .before .before .before .before .before .before .args in
+    let at-parent-end = c .before .before .before .before .before in
+    let at-start = at-parent-end .before .before .before in
+    let args = at-start .args in
     let up = c .before .before .before .up in
-    let parent-end = c .before .before .before .before .before .parent-end in
-    let pre = c .before .before .before .before .before .before .before .before .pre in
+    let parent-end = at-parent-end .parent-end in
+    let pre = at-start .pre in
     up-room _ _ _ (subst (λ (x : Found). UpOf (now (args .src)) x) (up .given .1) (parent-end .ensures)) pre
 
 returns : tie.Need-returns
@@ -41,10 +43,13 @@ same-length c = search needs
 
 returns-2 : tie.Need-returns-2
 returns-2 c =
-    let args = c .before .before .before .before .before .before .before .before .before .before .before .args in
-    let up = c .before .before .before .before .before .before .up in
-    let parent-end = c .before .before .before .before .before .before .before .before .parent-end in
-    up-laid _ _ _ _ _ (subst (λ (x : Found). UpOf (now (args .src)) x) (up .given .1) (parent-end .ensures)) (c .before .before .normalize .ensures)
+    let at-up = c .before .before .before .before .before .before in
+    let at-parent-end = at-up .before .before in
+    let args = at-parent-end .before .before .before .args in
+    let up = at-up .up in
+    let parent-end = at-parent-end .parent-end in
+    up-laid _ _ _ _ _ (subst (λ (x : Found). UpOf (now (args .src)) x) (up .given .1) (parent-end .ensures))
+    (c .before .before .normalize .ensures)
 
 pub parent-spec : {M : Type 1} → statement M
 parent-spec =

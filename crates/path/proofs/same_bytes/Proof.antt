@@ -35,21 +35,29 @@ get-at-requires-2 c κs = (omega arith, omega arith)
 
 returns-2 : tie.Need-returns-2 Inv-loop μ-loop
 returns-2 c =
-    let args = c .before .before .before .before .before .before .before .before .args in
-    words-differ (args .a .now) (args .b .now) (c .before .before .before .before .loop .i - 8) (λ e. c .if2 .taken (c .before .before .get-at .ensures ∙ (e ∙ sym (c .before .get-at2 .ensures))))
+    let at-loop = c .before .before .before .before in
+    let at-start = at-loop .before .before .before .before in
+    let args = at-start .args in
+    words-differ (args .a .now) (args .b .now) (at-loop .loop .i - 8)
+    (λ e. c .if2 .taken (c .before .before .get-at .ensures ∙ (e ∙ sym (c .before .get-at2 .ensures))))
 
 loop-less : tie.Need-loop-less Inv-loop μ-loop
 loop-less c = omega arith
 
 loop-again : tie.Need-loop-again Inv-loop μ-loop
 loop-again c =
-    let args = c .before .before .before .before .before .before .before .before .args in
+    let at-shared-slice-known = c .before .before .before .before .before .before .before in
+    let args = at-shared-slice-known .before .args in
     let loop = c .before .before .before .before .loop in
     let a = args .a .now in
     let b = args .b .now in
-    let ba : Bytes a = λ j. omega (arith, c .before .before .before .before .before .before .before .shared-slice-known .given j) in
-    let bb : Bytes b = λ j. omega (arith, c .before .before .before .before .before .before .shared-slice-known2 .given j) in
-    (omega arith, words-next a b (loop .i - 8) (loop .i) ba bb (omega arith) (omega arith) (c .before .before .before .before .before .if1 .left) (sym (c .before .before .get-at .ensures) ∙ (c .if2 .left ∙ c .before .get-at2 .ensures)) (loop .inv .1))
+    let ba : Bytes a = λ j. omega (arith, at-shared-slice-known .shared-slice-known .given j) in
+    let bb : Bytes b = λ j. omega (arith, c .before .before .before .before .before .before .shared-slice-known2 .given j) in (
+      omega arith,
+      words-next a b (loop .i - 8) (loop .i) ba bb (omega arith) (omega arith)
+          (c .before .before .before .before .before .if1 .left)
+          (sym (c .before .before .get-at .ensures) ∙ (c .if2 .left ∙ c .before .get-at2 .ensures)) (loop .inv .1),
+    )
 
 slice-aggregate-same-few : tie.Need-slice-aggregate-same-few Inv-loop μ-loop
 slice-aggregate-same-few c = sym (length-take-le (c .before .before .loop .i) (c .before .before .before .before .before .before .args .a .now) (omega arith))

@@ -84,25 +84,32 @@ same-bytes-requires c κs = omega arith
 
 returns-4 : tie.Need-returns-4 Inv-loop μ-loop
 returns-4 c =
-    let loop = c .before .before .before .before .before .before .before .before .before .before .loop in
-    let last = c .before .before .before .before .before .before .before .before .last in
-    let last2 = c .before .before .before .before .before .before .last2 in
+    let at-last2 = c .before .before .before .before .before .before in
+    let at-last = at-last2 .before .before in
+    let loop = at-last .before .before .loop in
+    let last = at-last .last in
+    let last2 = at-last2 .last2 in
     let if1 = c .before .before .before .before .before .if1 in
     let if3 = c .before .before .before .before .if3 in
-    same-differ _ _ _ _ _ _ _ _ (loop .inv .0) (loop .inv .1) (last .ensures) (last2 .ensures) (loop .inv .2) (if1 .left) (if3 .left) (sym (c .before .same-bytes .ensures) ∙ not-true _ (c .if4 .taken))
+    same-differ _ _ _ _ _ _ _ _ (loop .inv .0) (loop .inv .1) (last .ensures) (last2 .ensures) (loop .inv .2) (if1 .left) (if3 .left)
+    (sym (c .before .same-bytes .ensures) ∙ not-true _ (c .if4 .taken))
 
 loop-less : tie.Need-loop-less Inv-loop μ-loop
 loop-less c =
-    let last = c .before .before .before .before .before .before .before .before .last in
-    let loop = c .before .before .before .before .before .before .before .before .before .before .loop in
+    let last = let at-if1 = c .before .before .before .before .before in at-if1 .before .before .before .last in
+    let loop = let at-if1 = c .before .before .before .before .before in
+    let at-loop = at-if1 .before .before .before .before .before in
+    at-loop .loop in
     let if1 = c .before .before .before .before .before .if1 in
     omega (arith, last .ensures .ordered, part-inside _ _ _ _ (loop .inv .0) (last .ensures), if1 .left)
 
 loop-again : tie.Need-loop-again Inv-loop μ-loop
 loop-again c =
-    let loop = c .before .before .before .before .before .before .before .before .before .before .loop in
-    let last = c .before .before .before .before .before .before .before .before .last in
-    let last2 = c .before .before .before .before .before .before .last2 in
+    let at-last2 = c .before .before .before .before .before .before in
+    let at-last = at-last2 .before .before in
+    let loop = at-last .before .before .loop in
+    let last = at-last .last in
+    let last2 = at-last2 .last2 in
     let if1 = c .before .before .before .before .before .if1 in
     let if3 = c .before .before .before .before .if3 in
     let p = last .ensures in
@@ -111,7 +118,8 @@ loop-again c =
     let y = part-inside _ _ _ _ (loop .inv .1) q in (
       omega (arith, x, p .ordered),
       omega (arith, y, q .ordered),
-      same-on _ _ _ _ _ _ _ _ (loop .inv .0) (loop .inv .1) p q (loop .inv .2) (if1 .left) (if3 .left) (sym (c .before .same-bytes .ensures) ∙ not-false _ (c .if4 .left)),
+      same-on _ _ _ _ _ _ _ _ (loop .inv .0) (loop .inv .1) p q (loop .inv .2) (if1 .left) (if3 .left)
+          (sym (c .before .same-bytes .ensures) ∙ not-false _ (c .if4 .left)),
     )
 
 pub same-walk-spec : {M : Type 1} → statement M

@@ -51,7 +51,7 @@ use Rattle.device.proofs.Place as P
 use Rattle.device.proofs.Place.Laws as P′
 use Rattle.device.proofs.Geometry as G
 use Rattle.device.proofs.Geometry.Laws as G′
-use Rattle.places.proofs.Laws.{put-stopped, put-done}
+use Rattle.places.proofs.Ways.{put-stopped, put-done}
 use Rattle.places.proofs.Parts.{placeT, placeV, geometryT, geometryV, blockVs, block-tells, a-place, a-geometry, a-block}
 use Rattle.places.proofs.header_write as write
 use Rattle.places.proofs.header_write.Symbol as write-def

@@ -43,6 +43,7 @@ use denote.Triple.Spec.{Meets, tripleOf}
 use denote.Triple.Table.{entered, cited}
 use denote.Triple.Walked.{Stays, stay-dropped, gave-slice, walkOf, goes-dropped, goes-gave-slice, walked, walk-meets}
 use denote.Exit.{yes}
+use Rattle.limits.specs.Limits.{rowWidth}
 use Rattle.walk.proofs.Calls.{ty, calls-to, a-number, a-struct}
 use Rattle.walk.proofs.Facts.{ends, heard-both}
 use Rattle.walk.proofs.Array.{lent-array, returned-array}
@@ -87,7 +88,7 @@ use Rattle.calls_gate.proofs.Reply as Re
 use Rattle.calls_gate.proofs.Reply.Laws as Re′
 use Rattle.places.proofs.Parts.{geometryT, geometryV, placeT, placeV}
 use Rattle.pool.proofs.Parts.{poolT, poolV, callT, callV, replyT, replyV, a-call}
-use Rattle.pool.proofs.Laws.{lost-fits, few-rows, many-rows-are}
+use Rattle.pool.proofs.Ways.{lost-fits, few-rows, many-rows-are}
 use Rattle.pool.proofs.lost as lost
 use Rattle.pool.proofs.lost.Symbol as lost-def
 use Rattle.pool.proofs.lost.Symbol.{name as #pool·lost}
@@ -194,7 +195,7 @@ module _ {M : Type 1} (𝓤 : URA M) (H : Heap 𝓤) (A : Atoms 𝓤) (W : Given
   abbrev to : ℕ → ℕ → List ℕ → RefT (List ℕ)
   to l γ s = record { ptr = (l, 0); name = γ; now = s }
 
-  front-fits : (z : List ℕ) → length z ≡ 256 → n ≤ 64 → n * 4 ≤ length z
+  front-fits : (z : List ℕ) → length z ≡ 256 → n ≤ 64 → n * rowWidth ≤ length z
   front-fits z e few = omega (arith, e, few)
 
   -- what the call over these numbers comes to
@@ -203,7 +204,7 @@ module _ {M : Type 1} (𝓤 : URA M) (H : Heap 𝓤) (A : Atoms 𝓤) (W : Given
 
   -- what `on_front` ensures, and what `too_many` does
   abbrev Fronted : Reply → List ℕ → List ℕ → List ℕ → List ℕ → List ℕ → List ℕ → List ℕ → Type 0
-  Fronted r b h m s d x z = replied r b h (take (n * 4) m) s d x ≡ Comes (take (n * 4) z)
+  Fronted r b h m s d x z = replied r b h (take (n * rowWidth) m) s d x ≡ Comes (take (n * rowWidth) z)
 
   abbrev Refused : Reply → Type 0
   Refused r = r ≡ cond (takesOf call .mounts) (silently WrongShape place zeroPool) (silently NotPool place pool)

@@ -1,7 +1,7 @@
 -- `mounts-is` says which of the two it is.
 use borrow.Author.Needs.{needs}
 use mathlib.Core.Path.{refl}
-use Rattle.pool.proofs.Laws.{mounts-is, chosen, other}
+use Rattle.pool.proofs.Ways.{mounts-is, chosen, other}
 use Rattle.pool.proofs.lost.Statement.{statement}
 use Rattle.pool.proofs.lost.Tie as tie
 

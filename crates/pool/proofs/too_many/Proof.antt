@@ -4,7 +4,7 @@ use mathlib.Core.Path.{refl, ap, _∙_}
 use Rattle.mount.proofs.Mounting.{zeroed}
 use Rattle.calls_gate.specs.declared.Answer.the-variants.{WrongShape}
 use Rattle.calls_gate.specs.Replies.{silently}
-use Rattle.pool.proofs.Laws.{mounts-is, chosen, other}
+use Rattle.pool.proofs.Ways.{mounts-is, chosen, other}
 use Rattle.pool.proofs.too_many.Statement.{statement}
 use Rattle.pool.proofs.too_many.Tie as tie
 

@@ -1,10 +1,11 @@
+-- One law for each way out: `args-short`, `args-first`, `args-second`, `args-whole`.
 use mathlib.Core.Path.{_∙_, sym, subst, _≡_}
 use mathlib.Core.Bool.{Bool}
 use Prim.Native.Nat.{ℕ, _≤_}
 use lib.ListN.{length}
 use borrow.Author.Tests.{not-true, not-false}
 use Rattle.reader.specs.declared.Span.{Span}
-use Rattle.reader.specs.Laws.{small, span-if-inside}
+use Rattle.reader.specs.Reading.{small, span-if-inside}
 use Rattle.reader.proofs.Ways.{args-short, args-first, args-second, args-whole}
 use mathlib.Core.List.{List}
 use Rattle.reader.specs.Format.{spanIf}

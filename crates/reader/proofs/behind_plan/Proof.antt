@@ -1,3 +1,4 @@
+-- One law for each way out: `plan-cut`, `lengths-cut`, `setup-whole`.
 use mathlib.Core.Path.{_∙_, _≡_, sym, subst}
 use mathlib.Core.List.{List}
 use Prim.Native.Nat.{ℕ, _≤_, _*_}
@@ -6,7 +7,7 @@ use borrow.Author.Tests.{not-true, not-false}
 use native.Mathlib.Nat.{mul-le-mul-right}
 use Rattle.reader.specs.declared.Span.{Span}
 use Rattle.reader.specs.Format.{spanAt}
-use Rattle.reader.specs.Laws.{span-inside}
+use Rattle.reader.specs.Reading.{span-inside}
 use Rattle.reader.proofs.Ways.{plan-cut, lengths-cut, setup-whole}
 use native.Mathlib.Omega.{arith}
 use borrow.Author.Needs.{needs}

@@ -1,3 +1,4 @@
+-- A turn of the loop is `lengths-turn`: the lengths read so far, and those still to read, make the whole list.
 use borrow.Author.Needs.{needs}
 use mathlib.Core.Path.{_∙_, _≡_, sym, ap, refl}
 use mathlib.Core.List.{List, _++_, append-nil}

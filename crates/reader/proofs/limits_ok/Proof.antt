@@ -1,3 +1,4 @@
+-- Each test decides one part of `limitsOk`.
 use borrow.Author.Tests.{le-leb, lt-leb}
 use native.Mathlib.Nat.{mul-le-mul-right}
 use Rattle.reader.specs.Format.{limitsOk}

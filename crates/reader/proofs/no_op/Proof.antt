@@ -1,3 +1,4 @@
+-- The fields as they are made, with the empty span twice.
 use mathlib.Core.Path.{ap₂}
 use Rattle.reader.specs.declared.Span.{Span}
 use Rattle.reader.specs.declared.Op.{Op}

@@ -1,3 +1,4 @@
+-- The fields as they are made, with the empty span.
 use mathlib.Core.Path.{ap}
 use mathlib.Core.Bool.{false}
 use Rattle.reader.specs.declared.Setup.{Setup}

@@ -1,3 +1,4 @@
+-- One law for each way out: `op-end`, `op-unknown`, `op-zero`, `op-known`.
 use mathlib.Core.Path.{_∙_}
 use Rattle.reader.proofs.Ways.{op-end, op-unknown, op-zero, op-known}
 use native.Mathlib.Omega.{arith}

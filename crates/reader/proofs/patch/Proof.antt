@@ -1,3 +1,4 @@
+-- A turn of the loop is `patches-turn`: patching what is left gives the whole; `patches-stop` and `patches-end` are the ways out.
 use borrow.Author.Needs.{needs}
 use mathlib.Core.Path.{_∙_, _≡_, sym, subst, ap, refl}
 use mathlib.Core.Bool.{Bool, true}
@@ -8,7 +9,7 @@ use lib.ListN.{length}
 use borrow.Author.Tests.{not-true, not-false}
 use Rattle.reader.specs.declared.Span.{Span}
 use Rattle.reader.specs.Format.{span, patching, patchAt, patchedM}
-use Rattle.reader.specs.Laws.{patch-end}
+use Rattle.reader.specs.Reading.{patch-end}
 use Rattle.reader.proofs.Ways.{patches-stop, patches-turn, patches-end}
 use native.Mathlib.Omega.{arith}
 use Rattle.reader.proofs.patch.Statement.{statement}

@@ -1,3 +1,4 @@
+-- One law for each way out: `patch-short`, `patch-cut`, `patch-outside`, `patch-inside`.
 use mathlib.Core.Path.{_∙_, _≡_, sym, subst, ap}
 use mathlib.Core.List.{List}
 use Prim.Native.Nat.{ℕ, _<_, _≤_}
@@ -5,7 +6,7 @@ use lib.ListN.{length}
 use borrow.Author.Tests.{not-true, not-false}
 use Rattle.reader.specs.declared.Span.{Span}
 use Rattle.reader.specs.Format.{spanAt, patching}
-use Rattle.reader.specs.Laws.{Inside, span-inside, field-lt}
+use Rattle.reader.specs.Reading.{Inside, span-inside, field-lt}
 use Rattle.reader.proofs.Ways.{patch-short, patch-cut, patch-outside, patch-inside}
 use native.Mathlib.Omega.{arith}
 use borrow.Author.Needs.{needs}

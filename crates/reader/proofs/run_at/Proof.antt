@@ -1,3 +1,4 @@
+-- One law for each way out: `run-short`, `run-cut`, `run-whole`.
 use mathlib.Core.Path.{_∙_}
 use Rattle.reader.proofs.Ways.{run-short, run-cut, run-whole}
 use borrow.Author.Needs.{needs}

@@ -1,3 +1,4 @@
+-- One law for each way out: `if-wanted`, `if-not`.
 use Rattle.reader.proofs.Ways.{if-wanted, if-not}
 use borrow.Author.Needs.{needs}
 use Rattle.reader.proofs.run_if.Statement.{statement}

@@ -1,7 +1,8 @@
+-- One law for each way out: `setup-long`, `setup-short`, `setup-other`, `setup-large`, `setup-fits`.
 use mathlib.Core.Path.{_∙_, _≡_, sym, subst}
 use Prim.Native.Nat.{ℕ, _<_}
 use borrow.Author.Tests.{not-true, not-false}
-use Rattle.reader.specs.Laws.{field-lt}
+use Rattle.reader.specs.Reading.{field-lt}
 use Rattle.reader.proofs.Ways.{setup-long, setup-short, setup-other, setup-large, setup-fits}
 use native.Mathlib.Omega.{arith}
 use borrow.Author.Needs.{needs}

@@ -37,12 +37,13 @@ use denote.Triple.Spec.{Meets, tripleOf}
 use denote.Triple.Table.{entered, cited}
 use denote.Triple.Walked.{needs, Stays, stay-dropped, walkOf, goes-dropped, walked, walk-meets}
 use denote.Exit.{yes}
+use Rattle.limits.specs.Limits.{rowWidth}
 use Rattle.walk.proofs.Calls.{ty, calls-to}
 use Rattle.walk.proofs.Facts.{ends}
 use Rattle.walk.proofs.Array.{lent-array, returned-array}
 use Rattle.records.specs.declared.Slot.{Slot}
 use Rattle.records.specs.Records.{loaded, flatOf}
-use Rattle.records.specs.Laws.{zeros-loaded}
+use Rattle.records.specs.SameNumbers.{zeros-loaded}
 use Rattle.records.proofs.Parts.{slotT, numsT, numsVs, numsV, nums-tells, nums-room, a-nums}
 use Rattle.records.proofs.zeros as zeros
 use Rattle.records.proofs.zeros.Symbol as zeros-def
@@ -82,7 +83,7 @@ module _ {M : Type 1} (𝓤 : URA M) (H : Heap 𝓤) (A : Atoms 𝓤) (W : Given
   abbrev to : ℕ → ℕ → List ℕ → RefT (List ℕ)
   to l γ s = record { ptr = (l, 0); name = γ; now = s }
 
-  room-for : (s : List ℕ) → length s ≡ 256 → length (rows .now) * 4 ≤ length s
+  room-for : (s : List ℕ) → length s ≡ 256 → length (rows .now) * rowWidth ≤ length s
   room-for s e = omega (arith, few, e)
 
   filled : (s z : List ℕ) → z ≡ replicate 256 0 → s ≡ loaded (rows .now) z → s ≡ flatOf (rows .now)

@@ -38,6 +38,7 @@ use denote.Triple.Spec.{Meets, tripleOf}
 use denote.Triple.Table.{entered, cited}
 use denote.Triple.Walked.{needs, Stays, stay-dropped, gave-slice, walkOf, goes-dropped, goes-gave-slice, walked, walk-meets}
 use denote.Exit.{yes}
+use Rattle.limits.specs.Limits.{rowWidth}
 use Rattle.walk.proofs.Calls.{ty, calls-to}
 use Rattle.walk.proofs.Facts.{ends}
 use Rattle.walk.proofs.Array.{shared-array, unshared-array}
@@ -81,7 +82,7 @@ module _ {M : Type 1} (𝓤 : URA M) (H : Heap 𝓤) (A : Atoms 𝓤) (W : Given
   abbrev to : ℕ → ℕ → List ℕ → RefT (List ℕ)
   to l γ s = record { ptr = (l, 0); name = γ; now = s }
 
-  room-for : length nums ≡ 256 → length (rows .now) * 4 ≤ length nums
+  room-for : length nums ≡ 256 → length (rows .now) * rowWidth ≤ length nums
   room-for e = omega (arith, few, e)
 
   module _ (C : Calls 𝓤 H) (Λ : Loops 𝓤 H) (fm : FmC 𝓤 H (W .laws) C) (fills : Meets 𝓤 H A fill.signature (C #records·store) (fill.spec 𝓤 H A at-mem run)) where

@@ -42,6 +42,7 @@ use denote.Triple.Spec.{Meets, tripleOf}
 use denote.Triple.Table.{entered, cited}
 use denote.Triple.Walked.{needs, Stays, stay-dropped, stay-slice, walkOf, goes-dropped, goes-slice, walked, walk-meets}
 use denote.Exit.{yes}
+use Rattle.limits.specs.Limits.{rowWidth}
 use Rattle.walk.proofs.Calls.{ty, calls-to, copied, a-number}
 use Rattle.walk.proofs.Facts.{ends}
 use Rattle.walk.proofs.Lend.{anew, lend, back}
@@ -76,7 +77,7 @@ abbrev spelled : (κs : Lfts 2) → Spells (typesAt (outer.signature .params) κ
 spelled κs = (slice-vals, (slice-vals, tt))
 
 module _ {M : Type 1} (𝓤 : URA M) (H : Heap 𝓤) (A : Atoms 𝓤) (W : Given 𝓤 H A) (at-mem : Memory → SProp 𝓤) (run : Routine → Fun 𝓤) (κs : Lfts 2) (qs : Shares 2) (bounds : AllOutlive 2 (outer.signature .outlives) κs) (a : Args outer.signature κs)
-    (are : Are (typesAt (outer.signature .params) κs) (Ises (typesAt (outer.signature .params) κs)) a (valss (typesAt (outer.signature .params) κs) (spelled κs) a)) (fits : length (a .0 .now) * 4 ≤ length (a .1 .0 .now)) where
+    (are : Are (typesAt (outer.signature .params) κs) (Ises (typesAt (outer.signature .params) κs)) a (valss (typesAt (outer.signature .params) κs) (spelled κs) a)) (fits : length (a .0 .now) * rowWidth ≤ length (a .1 .0 .now)) where
   abbrev rows : RefT (List Slot)
   rows = a .0
 
@@ -152,7 +153,7 @@ module _ {M : Type 1} (𝓤 : URA M) (H : Heap 𝓤) (A : Atoms 𝓤) (W : Given
           move ! (22 ∷ 23 ∷ []) $ lend ! tt u64 (named 1) (named 0) now-dst (slice-vals nums) (λ ν δ. nothing ! $ a-slot ! r is $ fjoin ! $ a-number ! i i-fits $ fjoin ! $ move ! (2 ∷ 0 ∷ []) $ fjoin ! $ nothing ! $ move ! (2 ∷ 0 ∷ []) $
           join ! $ use1 W (raw (alive 𝓤 H A write.signature (ν ∷ [], tt) (fullShare, tt))) (id⊢ 𝓤 _) $ move ! (0 ∷ 1 ∷ []) $
           calls-to ! (fmOf 𝓤 H (W .laws) 𝓣) write.ended (write.clauses 𝓤 H A at-mem run) writes (((ν ∷ [], tt), (fullShare, tt), tt, (anew nums δ l, (i, (r, tt))), (slice-vals nums, (vint w64 i ∷ [], (slotV r ∷ [], tt)))), tt) (factI 𝓤 _ _ four-now) (λ _. vunit) nothing-tells (and-then ! (load ! (from ! (stop !)) (look ! 4 refl)) (and-then ! (load ! (from ! (stop !)) (look ! 16 refl)) (and-then ! (load ! (from ! (stop !)) (look ! 14 refl)) (no-more !)))) (λ _ ws _.
-          heard ! (ws .0 ≡ sets l (i * 4) (slotNums r)) (λ e. fsplit ! $ fsplit ! $ move ! (1 ∷ []) $ feqL ! (λ long-now. move ! (1 ∷ []) $ drop ! $ move ! (1 ∷ []) $ use1 W (‵ (flft (ν ∷ []) fullShare) ⊛ ‵ ftrue) (id⊢ 𝓤 _) $ split ! $ move ! (1 ∷ []) $ drop ! $
+          heard ! (ws .0 ≡ sets l (i * rowWidth) (slotNums r)) (λ e. fsplit ! $ fsplit ! $ move ! (1 ∷ []) $ feqL ! (λ long-now. move ! (1 ∷ []) $ drop ! $ move ! (1 ∷ []) $ use1 W (‵ (flft (ν ∷ []) fullShare) ⊛ ‵ ftrue) (id⊢ 𝓤 _) $ split ! $ move ! (1 ∷ []) $ drop ! $
           land ! (from ! (stop !)) (init ! 9 refl (tt, tt)) $ move ! (0 ∷ 2 ∷ 1 ∷ []) $ back ! tt u64 (named 1) now-dst (slice-vals nums) (ws .0) vals-now room-now long-now $
           assigns-last ! (bin ! (load ! (from ! (stop !)) (look ! 16 refl)) (lit ! tt) (record { fits = next-fits })) (from ! (stop !)) (store ! 16 refl (tt, record { fits = next-fits })) $
           forget ! 4 refl $ forget ! 6 refl $ forget ! 8 refl $ forget ! 10 refl $ forget ! 12 refl $ forget ! 14 refl $ keep ! (4 ∷ 5 ∷ 6 ∷ 7 ∷ 8 ∷ 9 ∷ 10 ∷ 11 ∷ 12 ∷ 13 ∷ 14 ∷ 15 ∷ 16 ∷ 17 ∷ 18 ∷ 19 ∷ 20 ∷ 21 ∷ 22 ∷ 23 ∷ 3 ∷ 2 ∷ 0 ∷ 1 ∷ []) $
@@ -164,7 +165,7 @@ module _ {M : Type 1} (𝓤 : URA M) (H : Heap 𝓤) (A : Atoms 𝓤) (W : Given
           nearer : n - (i + 1) < n - i
           nearer = omega (arith, ltb-true i n eq)
 
-          four-now : i * 4 + 4 ≤ length l
+          four-now : i * rowWidth + rowWidth ≤ length l
           four-now = omega (arith, fits, long, ltb-true i n eq)
 
           i-fits : i < 2 ^ 64
@@ -216,6 +217,6 @@ load-spec 𝓤 H 𝓜 𝓖 𝓡 =
     (tables 𝓤 H 𝓜 𝓡 code.env .C) (tables 𝓤 H 𝓜 𝓡 code.env .Λ) #records·load code.function (code.unfolded 𝓤 H 𝓜 𝓡)
     (walk-meets 𝓤 H A outer.ended stayed W (goes-dropped 𝓤 H A W 2 (shrSliceOf (0 ∷ []) tt (plain (λ _. slotT))) yes (λ _ _ _. refl), (goes-slice 𝓤 H A W 2 1 tt (plain (λ _. u64)), tt)) c (WpFn 𝓤 H (𝓣 .C) (𝓣 .Λ) code.function) (WpFn-mono 𝓤 H (W .laws) 𝓣 code.function)
     (walked 𝓤 H A outer.ended stayed c (WpFn 𝓤 H (𝓣 .C) (𝓣 .Λ) code.function) spelled (λ κs. (shr-slice-tells (named 0) (κs .0) slotT, (mut-slice-tells (named 1) (κs .1 .0) u64, tt)))
-    (λ κs qs bounds a _ are. needs 𝓤 (length (a .0 .now) * 4 ≤ length (a .1 .0 .now)) _ (λ fits. walk 𝓤 H A W (𝓜 .mem) (𝓡 .run) κs qs bounds a are fits 𝓣
+    (λ κs qs bounds a _ are. needs 𝓤 (length (a .0 .now) * rowWidth ≤ length (a .1 .0 .now)) _ (λ fits. walk 𝓤 H A W (𝓜 .mem) (𝓡 .run) κs qs bounds a are fits 𝓣
     (cited 𝓤 H (tripleOf 𝓤 H A read.signature (read.spec 𝓤 H A (𝓜 .mem) (𝓡 .run))) 𝓜 𝓡 code.env #records·get read-def.routine code.calls-records·get (read-thm.met 𝓤 H 𝓜 𝓖 𝓡))
     (cited 𝓤 H (tripleOf 𝓤 H A write.signature (write.spec 𝓤 H A (𝓜 .mem) (𝓡 .run))) 𝓜 𝓡 code.env #records·put-nums write-def.routine code.calls-records·put-nums (write-thm.met 𝓤 H 𝓜 𝓖 𝓡))))))

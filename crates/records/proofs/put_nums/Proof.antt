@@ -3,6 +3,7 @@ use Prim.Native.Nat.{_*_}
 use native.Mathlib.Omega.{arith}
 use lib.ListN.{length-set}
 use borrow.Author.Needs.{needs}
+use Rattle.limits.specs.Limits.{rowWidth}
 use Rattle.lists.specs.Blocks.{sets-four}
 use Rattle.records.specs.Records.{slotNums}
 use Rattle.records.proofs.put_nums.Statement.{statement}
@@ -10,7 +11,7 @@ use Rattle.records.proofs.put_nums.Tie as tie
 
 returns : tie.Need-returns
 unfolding slotNums
-returns c = sets-four (c .args .nums .now) (c .args .i * 4) _ _ _ _
+returns c = sets-four (c .args .nums .now) (c .args .i * rowWidth) _ _ _ _
 
 pub put-nums-spec : {M : Type 1} → statement M
 put-nums-spec =

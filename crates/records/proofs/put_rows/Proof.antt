@@ -4,6 +4,7 @@ use Prim.Native.Nat.{_-_, _/_, _≤_}
 use native.Mathlib.Omega.{arith}
 use borrow.Author.Needs.{needs}
 use lib.ListN.{length, take}
+use Rattle.limits.specs.Limits.{rowWidth}
 use Rattle.records.specs.Whole.{whole-rows}
 use Rattle.records.proofs.Turns.{Loading}
 use Rattle.records.proofs.Spread.{put-start, put-turn, put-end}
@@ -11,10 +12,10 @@ use Rattle.records.proofs.put_rows.Statement.{statement}
 use Rattle.records.proofs.put_rows.Tie as tie
 
 abbrev Inv-loop : tie.InvT-loop
-Inv-loop nums₀ rows n i₀ nums i = (i ≤ length nums₀ / 4) × (length nums ≡ length nums₀) × Loading (take (length nums₀ / 4) rows) nums₀ i nums
+Inv-loop nums₀ rows n i₀ nums i = (i ≤ length nums₀ / rowWidth) × (length nums ≡ length nums₀) × Loading (take (length nums₀ / rowWidth) rows) nums₀ i nums
 
 abbrev μ-loop : tie.MeasureT-loop
-μ-loop nums₀ rows n i₀ nums i = length nums₀ / 4 - i
+μ-loop nums₀ rows n i₀ nums i = length nums₀ / rowWidth - i
 
 loop-holds : tie.Need-loop-holds Inv-loop μ-loop
 loop-holds c = let start = c .before in let a = start .args in

@@ -4,6 +4,7 @@ use Prim.Native.Nat.{_-_, _/_, _≤_}
 use native.Mathlib.Omega.{arith}
 use borrow.Author.Needs.{needs}
 use lib.ListN.{length, length-set, length-replicate}
+use Rattle.limits.specs.Limits.{rowWidth}
 use Rattle.records.specs.Records.{none}
 use Rattle.records.specs.Whole.{whole-rows}
 use Rattle.records.proofs.Spread.{Spreading, spread-start, spread-turn, spread-end}
@@ -11,10 +12,10 @@ use Rattle.records.proofs.rows_of.Statement.{statement}
 use Rattle.records.proofs.rows_of.Tie as tie
 
 abbrev Inv-loop : tie.InvT-loop
-Inv-loop nums rows₀ n i₀ rows i = (i ≤ length nums / 4) × (length rows ≡ 66) × Spreading nums i rows
+Inv-loop nums rows₀ n i₀ rows i = (i ≤ length nums / rowWidth) × (length rows ≡ 66) × Spreading nums i rows
 
 abbrev μ-loop : tie.MeasureT-loop
-μ-loop nums rows₀ n i₀ rows i = length nums / 4 - i
+μ-loop nums rows₀ n i₀ rows i = length nums / rowWidth - i
 
 loop-holds : tie.Need-loop-holds Inv-loop μ-loop
 loop-holds c = let start = c .before .before in let f = c .no-rows in

@@ -41,6 +41,7 @@ use denote.Triple.Spec.{Meets, tripleOf}
 use denote.Triple.Table.{entered, cited}
 use denote.Triple.Walked.{needs, Stays, stay-dropped, stay-slice, walkOf, goes-dropped, goes-slice, walked, walk-meets}
 use denote.Exit.{yes}
+use Rattle.limits.specs.Limits.{rowWidth}
 use Rattle.walk.proofs.Calls.{ty, calls-to, copied, a-number}
 use Rattle.walk.proofs.Facts.{ends}
 use Rattle.walk.proofs.Lend.{anew, lend, back}
@@ -75,7 +76,7 @@ abbrev spelled : (κs : Lfts 2) → Spells (typesAt (outer.signature .params) κ
 spelled κs = (slice-vals, (slice-vals, tt))
 
 module _ {M : Type 1} (𝓤 : URA M) (H : Heap 𝓤) (A : Atoms 𝓤) (W : Given 𝓤 H A) (at-mem : Memory → SProp 𝓤) (run : Routine → Fun 𝓤) (κs : Lfts 2) (qs : Shares 2) (bounds : AllOutlive 2 (outer.signature .outlives) κs) (a : Args outer.signature κs)
-    (are : Are (typesAt (outer.signature .params) κs) (Ises (typesAt (outer.signature .params) κs)) a (valss (typesAt (outer.signature .params) κs) (spelled κs) a)) (fits : length (a .0 .now) * 4 ≤ length (a .1 .0 .now)) where
+    (are : Are (typesAt (outer.signature .params) κs) (Ises (typesAt (outer.signature .params) κs)) a (valss (typesAt (outer.signature .params) κs) (spelled κs) a)) (fits : length (a .0 .now) * rowWidth ≤ length (a .1 .0 .now)) where
   abbrev rows : RefT (List Slot)
   rows = a .0
 
@@ -163,7 +164,7 @@ module _ {M : Type 1} (𝓤 : URA M) (H : Heap 𝓤) (A : Atoms 𝓤) (W : Given
           nearer : n - (i + 1) < n - i
           nearer = omega (arith, ltb-true i n eq)
 
-          four : i * 4 + 4 ≤ length (nums .now)
+          four : i * rowWidth + rowWidth ≤ length (nums .now)
           four = omega (arith, fits, ltb-true i n eq)
 
           less-now : i < length l
@@ -218,6 +219,6 @@ store-spec 𝓤 H 𝓜 𝓖 𝓡 =
     (tables 𝓤 H 𝓜 𝓡 code.env .C) (tables 𝓤 H 𝓜 𝓡 code.env .Λ) #records·store code.function (code.unfolded 𝓤 H 𝓜 𝓡)
     (walk-meets 𝓤 H A outer.ended stayed W (goes-slice 𝓤 H A W 2 0 tt (plain (λ _. slotT)), (goes-dropped 𝓤 H A W 2 (shrSliceOf (1 ∷ []) tt (plain (λ _. u64))) yes (λ _ _ _. refl), tt)) c (WpFn 𝓤 H (𝓣 .C) (𝓣 .Λ) code.function) (WpFn-mono 𝓤 H (W .laws) 𝓣 code.function)
     (walked 𝓤 H A outer.ended stayed c (WpFn 𝓤 H (𝓣 .C) (𝓣 .Λ) code.function) spelled (λ κs. (mut-slice-tells (named 0) (κs .0) slotT, (shr-slice-tells (named 1) (κs .1 .0) u64, tt)))
-    (λ κs qs bounds a _ are. needs 𝓤 (length (a .0 .now) * 4 ≤ length (a .1 .0 .now)) _ (λ fits. walk 𝓤 H A W (𝓜 .mem) (𝓡 .run) κs qs bounds a are fits 𝓣
+    (λ κs qs bounds a _ are. needs 𝓤 (length (a .0 .now) * rowWidth ≤ length (a .1 .0 .now)) _ (λ fits. walk 𝓤 H A W (𝓜 .mem) (𝓡 .run) κs qs bounds a are fits 𝓣
     (cited 𝓤 H (tripleOf 𝓤 H A read.signature (read.spec 𝓤 H A (𝓜 .mem) (𝓡 .run))) 𝓜 𝓡 code.env #records·from-nums read-def.routine code.calls-records·from-nums (read-thm.met 𝓤 H 𝓜 𝓖 𝓡))
     (cited 𝓤 H (tripleOf 𝓤 H A write.signature (write.spec 𝓤 H A (𝓜 .mem) (𝓡 .run))) 𝓜 𝓡 code.env #records·set write-def.routine code.calls-records·set (write-thm.met 𝓤 H 𝓜 𝓖 𝓡))))))

@@ -1,6 +1,6 @@
 -- Carried by `need-two` and `need-one`.
 use borrow.Author.Needs.{needs}
-use Rattle.renames.proofs.Laws.{need-two, need-one}
+use Rattle.renames.proofs.Ways.{need-two, need-one}
 use Rattle.renames.proofs.needed.Statement.{statement}
 use Rattle.renames.proofs.needed.Tie as tie
 

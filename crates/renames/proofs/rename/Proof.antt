@@ -2,28 +2,63 @@
 use borrow.Author.Needs.{needs}
 use mathlib.Core.Path.{_∙_}
 use borrow.Author.Tests.{not-true, not-false}
-use Rattle.table.specs.Laws.{pool-rows}
-use Rattle.renames.proofs.Laws.{from-held, rebind-ready, settle-ready, rename-stopped, rename-failed, rename-done}
+use Rattle.table.specs.InBuffers.{pool-rows}
+use Rattle.renames.proofs.Ways.{from-held, rebind-ready, settle-ready, rename-stopped, rename-failed, rename-done}
 use Rattle.renames.proofs.rename.Statement.{statement}
 use Rattle.renames.proofs.rename.Tie as tie
 
 front-requires : tie.Need-front-requires
-front-requires c κs = c .before .before .before .before .before .before .before .before .before .before .before .pre .pool
+front-requires c κs =
+    let after-start = c .before .before .before .before .before .before .before in
+    let at-start = after-start .before .before .before .before in
+    at-start .pre .pool
 
 returns : tie.Need-returns
-returns c = rename-stopped _ _ (c .before .before .before .before .before .before .before .before .before .before .before .before .before .pre) _ _ _ _ (c .before .front .ensures) (not-true (c .before .front .result .go) (c .if1 .taken))
+returns c =
+    let after-start = c .before .before .before .before .before .before .before in
+    let at-start = after-start .before .before .before .before .before .before in
+    rename-stopped _ _ (at-start .pre) _ _ _ _ (c .before .front .ensures) (not-true (c .before .front .result .go) (c .if1 .taken))
 
 row-len-requires : tie.Need-row-len-requires
-row-len-requires c κs = (pool-rows _ (c .before .before .before .before .before .before .before .before .before .before .before .before .before .before .before .pre .pool), from-held _ _ (c .before .before .before .before .before .before .before .before .before .before .before .before .before .before .before .pre) (c .before .before .before .before .before .before .before .before .before .before .before .before .before .before .before .args .plan .now) _ _ _ (c .before .before .before .front .ensures) (not-false (c .before .before .before .front .result .go) (c .before .before .if1 .left)))
+row-len-requires c κs =
+    let at-front = c .before .before .before in
+    let after-start = at-front .before .before .before .before .before .before .before in
+    let at-start = after-start .before .before .before .before .before in (
+      pool-rows _ (at-start .pre .pool),
+      from-held _ _ (at-start .pre) (at-start .args .plan .now) _ _ _ (at-front .front .ensures)
+          (not-false (at-front .front .result .go) (c .before .before .if1 .left)),
+    )
 
 rebind-requires : tie.Need-rebind-requires
-rebind-requires c κs = rebind-ready _ _ (c .before .before .before .before .before .before .before .before .before .before .before .before .before .before .before .before .before .before .before .before .before .pre) (c .before .before .before .before .before .before .before .before .before .before .before .before .before .before .before .before .before .before .before .before .before .args .plan .now) _ _ _ (c .before .before .before .before .before .before .before .before .before .front .ensures) (not-false (c .before .before .before .before .before .before .before .before .before .front .result .go) (c .before .before .before .before .before .before .before .before .if1 .left))
+rebind-requires c κs =
+    let after-if1 = c .before .before .before .before .before .before .before in
+    let at-front = after-if1 .before .before in
+    let after-start = at-front .before .before .before .before .before .before .before in
+    let at-start = after-start .before .before .before .before .before in
+    rebind-ready _ _ (at-start .pre) (at-start .args .plan .now) _ _ _ (at-front .front .ensures)
+    (not-false (at-front .front .result .go) (after-if1 .before .if1 .left))
 
 returns-2 : tie.Need-returns-2
-returns-2 c = rename-failed _ _ (c .before .before .before .before .before .before .before .before .before .before .before .before .before .before .before .before .before .before .before .before .before .before .before .before .before .before .before .before .before .before .before .pre) _ _ _ _ (c .before .before .before .before .before .before .before .before .before .before .before .before .before .before .before .before .before .before .before .front .ensures) (not-false (c .before .before .before .before .before .before .before .before .before .before .before .before .before .before .before .before .before .before .before .front .result .go) (c .before .before .before .before .before .before .before .before .before .before .before .before .before .before .before .before .before .before .if1 .left)) _ _ _ (c .before .before .before .before .before .before .before .before .before .rebind .ensures) (c .if2 .taken)
+returns-2 c =
+    let after-rebind = c .before .before .before .before .before .before .before in
+    let at-rebind = after-rebind .before .before in
+    let after-if1 = at-rebind .before .before .before .before .before .before .before in
+    let at-front = after-if1 .before .before .before in
+    let after-start = at-front .before .before .before .before .before .before .before in
+    let at-start = after-start .before .before .before .before .before in
+    rename-failed _ _ (at-start .pre) _ _ _ _ (at-front .front .ensures)
+    (not-false (at-front .front .result .go) (after-if1 .before .before .if1 .left)) _ _ _ (at-rebind .rebind .ensures) (c .if2 .taken)
 
 settle-requires : tie.Need-settle-requires
-settle-requires c κs = settle-ready _ _ (c .before .before .before .before .before .before .before .before .before .before .before .before .before .before .before .before .before .before .before .before .before .before .before .before .before .before .before .before .before .before .before .before .before .before .before .before .pre) _ _ _ _ (c .before .before .before .before .before .before .before .before .before .before .before .before .before .before .before .before .before .before .before .before .before .before .before .before .front .ensures) (not-false (c .before .before .before .before .before .before .before .before .before .before .before .before .before .before .before .before .before .before .before .before .before .before .before .before .front .result .go) (c .before .before .before .before .before .before .before .before .before .before .before .before .before .before .before .before .before .before .before .before .before .before .before .if1 .left)) _ _ _ (c .before .before .before .before .before .before .before .before .before .before .before .before .before .before .rebind .ensures)
+settle-requires c κs =
+    let after-rebind = c .before .before .before .before .before .before .before in
+    let at-rebind = after-rebind .before .before .before .before .before .before .before in
+    let after-if1 = at-rebind .before .before .before .before .before .before .before in
+    let at-front = after-if1 .before .before .before in
+    let after-start = at-front .before .before .before .before .before .before .before in
+    let at-start = after-start .before .before .before .before .before in
+    settle-ready _ _ (at-start .pre) _ _ _ _ (at-front .front .ensures)
+    (not-false (at-front .front .result .go) (after-if1 .before .before .if1 .left)) _ _ _ (at-rebind .rebind .ensures)
 
 same-length-9 : tie.Need-same-length-9
 same-length-9 c =
@@ -65,7 +100,19 @@ same-length-13 c =
     at-settle .settle .kept .1 .1 .1 .1 .1 .1 .1 .0
 
 returns-3 : tie.Need-returns-3
-returns-3 c = rename-done _ _ (c .before .before .before .before .before .before .before .before .before .before .before .before .before .before .before .before .before .before .before .before .before .before .before .before .before .before .before .before .before .before .before .before .before .before .before .before .before .before .before .before .before .before .before .before .before .before .before .pre) _ _ _ _ (c .before .before .before .before .before .before .before .before .before .before .before .before .before .before .before .before .before .before .before .before .before .before .before .before .before .before .before .before .before .before .before .before .before .before .before .front .ensures) (not-false (c .before .before .before .before .before .before .before .before .before .before .before .before .before .before .before .before .before .before .before .before .before .before .before .before .before .before .before .before .before .before .before .before .before .before .before .front .result .go) (c .before .before .before .before .before .before .before .before .before .before .before .before .before .before .before .before .before .before .before .before .before .before .before .before .before .before .before .before .before .before .before .before .before .before .if1 .left)) _ _ _ (c .before .before .before .before .before .before .before .before .before .before .before .before .before .before .before .before .before .before .before .before .before .before .before .before .before .rebind .ensures) (c .before .before .before .before .before .before .before .before .before .before .before .before .before .before .before .before .if2 .left) _ (c .before .before .before .before .before .before .before .before .before .before .before .before .before .before .before .before .before .before .before .before .before .before .before .before .before .before .before .before .before .before .before .row-len .ensures) _ (c .before .before .before .before .before .before .before .before .before .before .settle .ensures)
+returns-3 c =
+    let after-settle = c .before .before .before .before .before .before .before in
+    let at-settle = after-settle .before .before .before in
+    let at-if2 = at-settle .before .before .before .before .before .before in
+    let after-rebind = at-if2 .before .before .before .before .before .before .before in
+    let at-rebind = after-rebind .before .before in
+    let at-row-len = at-rebind .before .before .before .before .before .before in
+    let at-front = at-row-len .before .before .before .before in
+    let after-start = at-front .before .before .before .before .before .before .before in
+    let at-start = after-start .before .before .before .before .before in
+    rename-done _ _ (at-start .pre) _ _ _ _ (at-front .front .ensures)
+    (not-false (at-front .front .result .go) (at-row-len .before .before .before .if1 .left)) _ _ _ (at-rebind .rebind .ensures)
+    (at-if2 .if2 .left) _ (at-row-len .row-len .ensures) _ (at-settle .settle .ensures)
 
 pub rename-spec : {M : Type 1} → statement M
 rename-spec =

@@ -1,6 +1,6 @@
 -- Carried by `bound-stored`: the row's numbers and its padded path are the row, stored.
 use native.Mathlib.Omega.{arith}
-use Rattle.rows.specs.Laws.{row-fits}
+use Rattle.rows.proofs.InBuffers.{row-fits}
 use Rattle.rows.proofs.Fields.{bound-stored}
 use borrow.Author.Needs.{needs}
 use Rattle.rows.proofs.bind_row.Statement.{statement}
@@ -16,12 +16,14 @@ put-nums-requires c κs =
 
 mul-put-padded : tie.Need-mul-put-padded
 mul-put-padded c =
-    let pre = c .before .before .before .before .before .before .before .before .before .pre in
+    let pre = let after-start = c .before .before .before .before .before .before .before in
+    after-start .before .before .pre in
     omega (arith, row-fits _ _ _ _ (pre .0) _ (pre .1))
 
 put-padded-requires : tie.Need-put-padded-requires
 put-padded-requires c κs =
-    let pre = c .before .before .before .before .before .before .before .before .before .pre in
+    let after-start = c .before .before .before .before .before .before .before in
+    let pre = after-start .before .before .pre in
     (omega (arith, row-fits _ _ _ _ (pre .0) _ (pre .1)), pre .2)
 
 same-length : tie.Need-same-length
@@ -32,8 +34,11 @@ same-length-2 c = search needs
 
 returns : tie.Need-returns
 returns c =
-    let pre = c .before .before .before .before .before .before .before .before .before .before .before .before .pre in
-    bound-stored _ _ _ _ (pre .0) _ (pre .1) _ _ _ _ _ _ _ (pre .2) (c .before .before .before .before .before .before .before .mark .ensures) (c .before .before .before .before .before .before .put-nums .ensures) (c .before .before .put-padded .ensures)
+    let at-mark = c .before .before .before .before .before .before .before in
+    let at-start = at-mark .before .before .before .before .before in
+    let pre = at-start .pre in
+    bound-stored _ _ _ _ (pre .0) _ (pre .1) _ _ _ _ _ _ _ (pre .2) (at-mark .mark .ensures)
+    (c .before .before .before .before .before .before .put-nums .ensures) (c .before .before .put-padded .ensures)
 
 pub bind-row-spec : {M : Type 1} → statement M
 bind-row-spec =

@@ -17,7 +17,11 @@ same-length-2 : tie.Need-same-length-2
 same-length-2 c = search needs
 
 returns : tie.Need-returns
-returns c = let a = c .before .before .before .before .before .before .before .before .before .before .args in (zero-all (a .nums .now) _ (c .before .before .before .before .before .before .zero-nums .ensures), zero-all (a .names .now) _ (c .before .before .zero-in .ensures))
+returns c =
+    let at-zero-nums = c .before .before .before .before .before .before in
+    let at-start = at-zero-nums .before .before .before .before in
+    let a = at-start .args in
+    (zero-all (a .nums .now) _ (at-zero-nums .zero-nums .ensures), zero-all (a .names .now) _ (c .before .before .zero-in .ensures))
 
 pub clear-rows-spec : {M : Type 1} → statement M
 clear-rows-spec = tie.close (tie.spec zero-nums-requires zero-in-requires same-length same-length-2 returns)

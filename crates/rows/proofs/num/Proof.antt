@@ -1,5 +1,5 @@
 -- Carried by `num-at`: what stands in a row's place is the row's.
-use Rattle.rows.specs.Laws.{num-at, row-fits}
+use Rattle.rows.proofs.InBuffers.{num-at, row-fits}
 use native.Mathlib.Omega.{arith}
 use Rattle.rows.proofs.num.Statement.{statement}
 use Rattle.rows.proofs.num.Tie as tie

@@ -1,4 +1,5 @@
 -- Carried by `sets-four`: four stores are one run.
+use Rattle.limits.specs.Limits.{rowWidth}
 use Rattle.lists.specs.Blocks.{sets-four}
 use Prim.Native.Nat.{_*_}
 use lib.ListN.{length-set}
@@ -47,7 +48,7 @@ same-length : tie.Need-same-length
 same-length c = search needs
 
 returns : tie.Need-returns
-returns c = sets-four (c .args .nums .now) (c .args .i * 4) _ _ _ _
+returns c = sets-four (c .args .nums .now) (c .args .i * rowWidth) _ _ _ _
 
 pub put-nums-spec : {M : Type 1} → statement M
 put-nums-spec =

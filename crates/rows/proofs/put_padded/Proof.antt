@@ -20,7 +20,10 @@ same-length : tie.Need-same-length
 same-length c = search needs
 
 returns : tie.Need-returns
-returns c = sets-padded _ _ _ _ _ _ (c .before .before .before .before .before .before .before .before .before .before .pre .1) (c .before .before .before .before .before .before .copy-in .ensures) (c .before .before .zero-in .ensures)
+returns c =
+    let at-copy-in = c .before .before .before .before .before .before in
+    let at-start = at-copy-in .before .before .before .before in
+    sets-padded _ _ _ _ _ _ (at-start .pre .1) (at-copy-in .copy-in .ensures) (c .before .before .zero-in .ensures)
 
 pub put-padded-spec : {M : Type 1} → statement M
 put-padded-spec =

@@ -1,8 +1,8 @@
 -- Carried by `row-spells`: the row's part of the names is its path.
 use native.Mathlib.Omega.{arith}
 use mathlib.Core.Path.{sym, _∙_}
-use Rattle.rows.specs.Laws.{row-fits, name-part}
-use Rattle.rows.specs.Find.{holds-unbound}
+use Rattle.rows.proofs.InBuffers.{row-fits, name-part}
+use Rattle.rows.proofs.Finding.{holds-unbound}
 use Rattle.rows.proofs.Fields.{row-spells}
 use borrow.Author.Needs.{needs}
 use Rattle.rows.proofs.row_is.Statement.{statement}
@@ -40,8 +40,11 @@ spells-requires c κs = search needs
 
 returns : tie.Need-returns
 returns c =
-    let pre = c .before .before .before .before .before .before .before .before .pre in
-    c .spells .ensures ∙ row-spells _ _ _ _ (pre .0) _ (pre .1) _ _ (c .before .before .path-len .ensures) (sym (c .before .before .before .before .is-bound .ensures) ∙ c .before .before .before .if1 .taken)
+    let at-is-bound = c .before .before .before .before in
+    let at-start = at-is-bound .before .before .before .before in
+    let pre = at-start .pre in
+    c .spells .ensures ∙ row-spells _ _ _ _ (pre .0) _ (pre .1) _ _ (c .before .before .path-len .ensures)
+    (sym (at-is-bound .is-bound .ensures) ∙ c .before .before .before .if1 .taken)
 
 returns-2 : tie.Need-returns-2
 returns-2 c = sym (holds-unbound _ _ (sym (c .before .is-bound .ensures) ∙ c .if1 .left))

@@ -1,7 +1,7 @@
 -- Carried by `resized-stored`: two numbers stored are a row with the same path, stored.
 use native.Mathlib.Omega.{arith}
 use mathlib.Core.Path.{refl}
-use Rattle.rows.specs.Laws.{row-fits}
+use Rattle.rows.proofs.InBuffers.{row-fits}
 use Rattle.rows.proofs.Fields.{resized-stored}
 use lib.ListN.{length-set}
 use borrow.Author.Needs.{needs}

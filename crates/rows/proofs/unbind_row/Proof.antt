@@ -1,6 +1,6 @@
 -- Carried by `unbound-stored`: zeros and a generation are the unbound row, stored.
 use native.Mathlib.Omega.{arith}
-use Rattle.rows.specs.Laws.{row-fits}
+use Rattle.rows.proofs.InBuffers.{row-fits}
 use Rattle.rows.proofs.Fields.{unbound-stored}
 use borrow.Author.Needs.{needs}
 use Rattle.rows.proofs.unbind_row.Statement.{statement}
@@ -29,8 +29,10 @@ same-length-2 c = search needs
 
 returns : tie.Need-returns
 returns c =
-    let pre = c .before .before .before .before .before .before .before .before .before .before .pre in
-    unbound-stored _ _ _ _ (pre .0) _ (pre .1) _ _ _ (c .before .before .before .before .before .before .put-nums .ensures) (c .before .before .zero-in .ensures)
+    let at-put-nums = c .before .before .before .before .before .before in
+    let at-start = at-put-nums .before .before .before .before in
+    let pre = at-start .pre in
+    unbound-stored _ _ _ _ (pre .0) _ (pre .1) _ _ _ (at-put-nums .put-nums .ensures) (c .before .before .zero-in .ensures)
 
 pub unbind-row-spec : {M : Type 1} → statement M
 unbind-row-spec =

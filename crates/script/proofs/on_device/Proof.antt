@@ -1,9 +1,11 @@
+-- One law for each way out: `device-none`, `device-run`; the device's bytes and lengths are fronts of lent buffers.
 use mathlib.Core.Path.{_∙_, _≡_, ap, sym, subst, ap₂}
 use mathlib.Core.List.{List, _++_}
 use Prim.Native.Nat.{ℕ, _*_, _≤_, _+_}
 use lib.ListN.{length, take, drop}
 use lib.Seq.{length-take-le, length-front}
 use borrow.Author.Tests.{not-true, not-false}
+use Rattle.limits.specs.Limits.{rowWidth}
 use Rattle.writer.specs.Writer.{shown, pours}
 use Rattle.operate.proofs.Ways.{fresh-front, fresh-length}
 use Rattle.script.specs.Script.{whole, ranM}
@@ -66,7 +68,7 @@ lengths-requires c κs =
     let n : length (take (at-start .args .setup .slots) (c .before .no-lengths .result)) ≡ at-start .args .setup .slots = length-take-le
     (at-start .args .setup .slots) (c .before .no-lengths .result)
     (omega (arith, fresh-length 64 0 (c .before .no-lengths .result) (c .before .no-lengths .ensures), at-start .pre .slots)) in
-    subst (λ (k : ℕ). at-start .args .setup .phys + k * 4 ≤ length (at-start .args .script .now)) (sym n) (at-start .pre .phys)
+    subst (λ (k : ℕ). at-start .args .setup .phys + k * rowWidth ≤ length (at-start .args .script .now)) (sym n) (at-start .pre .phys)
 
 array-borrow-prefix-bytes-2 : tie.Need-array-borrow-prefix-bytes-2
 array-borrow-prefix-bytes-2 c =

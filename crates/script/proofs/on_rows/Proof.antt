@@ -1,7 +1,9 @@
+-- Carried by `rows-are`: the rows are fresh, and what was run over them is what the script comes to.
 use mathlib.Core.Path.{_∙_, _≡_, ap, sym}
 use Prim.Native.Nat.{_*_, _≤_}
 use lib.ListN.{length, take}
 use lib.Seq.{length-take-le}
+use Rattle.limits.specs.Limits.{maxPath, rowWidth, dirWidth}
 use Rattle.writer.specs.Writer.{shown}
 use Rattle.operate.specs.Operate.{Said}
 use Rattle.operate.proofs.Ways.{fresh-front, fresh-length}
@@ -53,7 +55,7 @@ slice-aggregate-run-all : tie.Need-slice-aggregate-run-all
 slice-aggregate-run-all c =
     let at-no-nums = c .before .before .before .before .before .before in
     let at-start = at-no-nums .before .before .before .before .before .before in
-    sym (length-take-le (at-start .args .setup .rows * 4) (at-no-nums .no-nums .result)
+    sym (length-take-le (at-start .args .setup .rows * rowWidth) (at-no-nums .no-nums .result)
     (omega (arith, fresh-length 264 0 (at-no-nums .no-nums .result) (at-no-nums .no-nums .ensures), at-start .pre .0 .rows)))
 
 array-borrow-prefix-names : tie.Need-array-borrow-prefix-names
@@ -63,7 +65,7 @@ slice-aggregate-run-all-2 : tie.Need-slice-aggregate-run-all-2
 slice-aggregate-run-all-2 c =
     let at-no-names = c .before .before .before .before .before .before in
     let at-start = at-no-names .before .before .before .before .before .before .before in
-    sym (length-take-le (at-start .args .setup .rows * 480) (at-no-names .no-names .result)
+    sym (length-take-le (at-start .args .setup .rows * maxPath) (at-no-names .no-names .result)
     (omega (arith, fresh-length 31680 0 (at-no-names .no-names .result) (at-no-names .no-names .ensures), at-start .pre .0 .rows)))
 
 array-borrow-prefix-dirs : tie.Need-array-borrow-prefix-dirs
@@ -74,7 +76,7 @@ slice-aggregate-run-all-3 c =
     let at-no-dirs = c .before .before .before .before .before .before in
     let after-start = at-no-dirs .before .before .before .before .before .before .before in
     let at-start = after-start .before in
-    sym (length-take-le (at-start .args .setup .«dir_rows» * 482) (at-no-dirs .no-dirs .result)
+    sym (length-take-le (at-start .args .setup .«dir_rows» * dirWidth) (at-no-dirs .no-dirs .result)
     (omega (arith, fresh-length 124356 0 (at-no-dirs .no-dirs .result) (at-no-dirs .no-dirs .ensures), at-start .pre .0 .dir-rows)))
 
 zero-requires : tie.Need-zero-requires
@@ -105,10 +107,10 @@ returns c =
     (after-run-all .before .before .run-all .ensures ∙ ap (λ (y : Said). closed y (shown (at-start .args .out .now) 0))
     (rows-are (at-start .args .script .now) u (at-start .args .bytes .now) (at-start .args .phys .now)
     (at-start .args .from) _ _ _ _ (at-zero .zero .ensures)
-    (fresh-front (u .rows * 4) 264 0 (at-no-nums .no-nums .result) (at-no-nums .no-nums .ensures) (omega (arith, at-start .pre .0 .rows)))
-    (fresh-front (u .rows * 480) 31680 0 (at-no-names .no-names .result) (at-no-names .no-names .ensures)
+    (fresh-front (u .rows * rowWidth) 264 0 (at-no-nums .no-nums .result) (at-no-nums .no-nums .ensures) (omega (arith, at-start .pre .0 .rows)))
+    (fresh-front (u .rows * maxPath) 31680 0 (at-no-names .no-names .result) (at-no-names .no-names .ensures)
     (omega (arith, at-start .pre .0 .rows)))
-    (fresh-front (u .«dir_rows» * 482) 124356 0 (at-no-dirs .no-dirs .result) (at-no-dirs .no-dirs .ensures)
+    (fresh-front (u .«dir_rows» * dirWidth) 124356 0 (at-no-dirs .no-dirs .result) (at-no-dirs .no-dirs .ensures)
     (omega (arith, at-start .pre .0 .dir-rows))))) in
     (p .0, (p .1, p .2))
 

@@ -1,7 +1,8 @@
+-- One law for each way out: `script-none`, `script-is`.
 use mathlib.Core.Path.{_∙_, _≡_, ap, sym, subst}
 use borrow.Author.Tests.{not-true, not-false}
 use Rattle.reader.specs.declared.Setup.{Setup}
-use Rattle.reader.specs.Laws.{Fine, setup-fine}
+use Rattle.reader.specs.Reading.{Fine, setup-fine}
 use Rattle.script.proofs.Ways.{script-none, script-is}
 use borrow.Author.Needs.{needs}
 use Rattle.script.proofs.pool_script.Statement.{statement}

@@ -1,3 +1,4 @@
+-- Carried by the record `Going`: running the operations that are left gives the whole run.
 use mathlib.Core.Path.{_∙_, _≡_, refl}
 use Prim.Native.Nat.{_-_}
 use lib.ListN.{length}

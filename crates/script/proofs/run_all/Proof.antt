@@ -1,3 +1,4 @@
+-- Carried by `tables-are`: the answers, then the device's table, then the record's.
 use Rattle.script.proofs.Ways.{tables-are}
 use native.Mathlib.Omega.{arith}
 use borrow.Author.Needs.{needs}

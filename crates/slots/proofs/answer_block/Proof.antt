@@ -15,7 +15,8 @@ abbrev μ-loop : tie.MeasureT-loop
 
 loop-holds : tie.Need-loop-holds Inv-loop μ-loop
 loop-holds c =
-    let start = c .before .before .before .before .before .before .before .before in
+    let after-start = c .before .before .before .before .before .before .before in
+    let start = after-start .before in
     (start .pre, refl, refl, refl, refl, refl, refl, refl)
 
 next-line-requires : tie.Need-next-line-requires Inv-loop μ-loop
@@ -26,17 +27,30 @@ next-line-requires c κs =
 
 loop-less : tie.Need-loop-less Inv-loop μ-loop
 loop-less c =
-    let at-next-line = c .before .before .before .before .before .before .before .before .before .before .before .before .before .before in
-    let at-if1 = at-next-line .before .before .before .before .before .before .before .before in
+    let at-next-line = let after-next-line-2 = c .before .before .before .before .before .before .before in
+    let at-next-line-2 = after-next-line-2 .before .before .before .before .before .before .before in
+    at-next-line-2 in
+    let at-if1 = let after-if1-2 = at-next-line .before .before .before .before .before .before .before in
+    after-if1-2 .before in
     omega (arith, at-if1 .if1 .taken, at-next-line .next-line .ensures .1)
 
 loop-again : tie.Need-loop-again Inv-loop μ-loop
 loop-again c =
-    let at-next-line = c .before .before .before .before .before .before .before .before .before .before .before .before .before .before in
-    let at-loop = at-next-line .before .before .before .before .before .before .before .before .before .before in
+    let after-next-line = c .before .before .before .before .before .before .before in
+    let at-next-line = after-next-line .before .before .before .before .before .before .before in
+    let after-loop = at-next-line .before .before .before .before .before .before .before in
+    let at-loop = after-loop .before .before .before in
     let k = at-next-line .next-line .kept in
-    let i = at-loop .loop .inv in
-    (at-next-line .next-line .ensures .0, k .0 ∙ i .1, k .1 .0 ∙ i .2, k .1 .1 .0 ∙ i .3, k .1 .1 .1 .0 ∙ i .4, k .1 .1 .1 .1 .0 ∙ i .5, k .1 .1 .1 .1 .1 .1 .0 ∙ i .6, k .1 .1 .1 .1 .1 .1 .1 .1 .0 ∙ i .7)
+    let i = at-loop .loop .inv in (
+      at-next-line .next-line .ensures .0,
+      k .0 ∙ i .1,
+      k .1 .0 ∙ i .2,
+      k .1 .1 .0 ∙ i .3,
+      k .1 .1 .1 .0 ∙ i .4,
+      k .1 .1 .1 .1 .0 ∙ i .5,
+      k .1 .1 .1 .1 .1 .1 .0 ∙ i .6,
+      k .1 .1 .1 .1 .1 .1 .1 .1 .0 ∙ i .7,
+    )
 
 write-requires : tie.Need-write-requires Inv-loop μ-loop
 write-requires c κs =

@@ -1,7 +1,7 @@
 -- What is held then is what was held and the part, cut at the buffer's end: `appended`.
 use Prim.Native.Nat.{_-_}
 use lib.ListN.{length, drop, length-take, length-drop}
-use Rattle.slots.proofs.Laws.{appended, appended-fits}
+use Rattle.slots.proofs.Held.{appended, appended-fits}
 use native.Mathlib.Omega.{arith}
 use mathlib.Core.Path.{sym}
 use lib.Seq.{length-take-le}

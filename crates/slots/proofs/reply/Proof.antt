@@ -10,7 +10,9 @@ make-room-requires c κs = search needs
 
 slice-aggregate-answer-line : tie.Need-slice-aggregate-answer-line
 slice-aggregate-answer-line c =
-    let start = c .before .before .before .before .before .before .before .before .before .before .before .before .before .before .before .before .before in
+    let after-start-2 = c .before .before .before .before .before .before .before in
+    let after-start = after-start-2 .before .before .before .before .before .before .before in
+    let start = after-start .before .before .before in
     sym (length-take-le (start .args .run .held) (start .args .line .now) (start .pre .held))
 
 sub-answer-line : tie.Need-sub-answer-line
@@ -29,19 +31,34 @@ reach-requires : tie.Need-reach-requires
 reach-requires c κs = search needs
 
 same-length : tie.Need-same-length
-same-length c = c .before .before .before .before .before .before .before .before .before .before .before .before .before .before .before .before .answer-line .kept .0
+same-length c =
+    let after-answer-line-2 = c .before .before .before .before .before .before .before in
+    let after-answer-line = after-answer-line-2 .before .before .before .before .before .before .before in
+    after-answer-line .before .before .answer-line .kept .0
 
 same-length-2 : tie.Need-same-length-2
-same-length-2 c = c .before .before .before .before .before .before .before .before .before .before .before .before .before .before .before .before .answer-line .kept .1 .0
+same-length-2 c =
+    let after-answer-line-2 = c .before .before .before .before .before .before .before in
+    let after-answer-line = after-answer-line-2 .before .before .before .before .before .before .before in
+    after-answer-line .before .before .answer-line .kept .1 .0
 
 same-length-3 : tie.Need-same-length-3
-same-length-3 c = c .before .before .before .before .before .before .before .before .before .before .before .before .before .before .before .before .answer-line .kept .1 .1 .1 .0
+same-length-3 c =
+    let after-answer-line-2 = c .before .before .before .before .before .before .before in
+    let after-answer-line = after-answer-line-2 .before .before .before .before .before .before .before in
+    after-answer-line .before .before .answer-line .kept .1 .1 .1 .0
 
 same-length-4 : tie.Need-same-length-4
-same-length-4 c = c .before .before .before .before .before .before .before .before .before .before .before .before .before .before .before .before .answer-line .kept .1 .1 .1 .1 .0
+same-length-4 c =
+    let after-answer-line-2 = c .before .before .before .before .before .before .before in
+    let after-answer-line = after-answer-line-2 .before .before .before .before .before .before .before in
+    after-answer-line .before .before .answer-line .kept .1 .1 .1 .1 .0
 
 same-length-5 : tie.Need-same-length-5
-same-length-5 c = c .before .before .before .before .before .before .before .before .before .before .before .before .before .before .before .before .answer-line .kept .1 .1 .1 .1 .1 .0
+same-length-5 c =
+    let after-answer-line-2 = c .before .before .before .before .before .before .before in
+    let after-answer-line = after-answer-line-2 .before .before .before .before .before .before .before in
+    after-answer-line .before .before .answer-line .kept .1 .1 .1 .1 .1 .0
 
 same-length-6 : tie.Need-same-length-6
 same-length-6 c = search needs

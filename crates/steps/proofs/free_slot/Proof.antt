@@ -5,7 +5,7 @@ use mathlib.Core.Path.{ap}
 use mathlib.Core.List.{[]}
 use Rattle.header.specs.declared.Header.{Header}
 use Rattle.header.specs.Block.{encoded}
-use Rattle.steps.proofs.Laws.{free-path, free-stopped, free-done}
+use Rattle.steps.proofs.Ways.{free-path, free-stopped, free-done}
 use Rattle.steps.proofs.free_slot.Statement.{statement}
 use Rattle.steps.proofs.free_slot.Tie as tie
 
@@ -23,7 +23,8 @@ returns c =
 data-truncate-requires : tie.Need-data-truncate-requires
 data-truncate-requires c κs =
     let at-put = c .before .before .before .before .before .before .before in
-    let start = at-put .before .before .before .before .before .before .before .before in
+    let after-start = at-put .before .before .before .before .before .before .before in
+    let start = after-start .before in
     (at-put .put-header .ensures .1, omega (arith, start .pre .1, at-put .put-header .kept .1 .0))
 
 returns-2 : tie.Need-returns-2

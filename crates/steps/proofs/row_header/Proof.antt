@@ -1,6 +1,6 @@
 -- Carried by `row-header-is`: the fields, one by one.
 use borrow.Author.Needs.{needs}
-use Rattle.steps.proofs.Laws.{row-header-is}
+use Rattle.steps.proofs.Ways.{row-header-is}
 use Rattle.steps.proofs.row_header.Statement.{statement}
 use Rattle.steps.proofs.row_header.Tie as tie
 

@@ -3,7 +3,7 @@ use borrow.Author.Needs.{needs}
 use mathlib.Core.Path.{sym}
 use Prim.Native.Nat.{_-_}
 use Rattle.rows.specs.Rows.{rowsOf}
-use Rattle.rows.specs.Laws.{length-rows}
+use Rattle.rows.proofs.InBuffers.{length-rows}
 use Rattle.survey.proofs.Finding.{Finding, finding-start, finding-same, finding-more, finding-done}
 use native.Mathlib.Omega.{arith}
 use Rattle.survey.proofs.find_losers.Statement.{statement}
@@ -44,17 +44,22 @@ array-write-lost c =
 
 cast-list : tie.Need-cast-list Inv-loop μ-loop
 cast-list c =
-    let pre = c .before .before .before .before .before .before .before .before .before .pre in
+    let pre = let after-start = c .before .before .before .before .before .before .before in
+    after-start .before .before .pre in
     omega (arith, pre .0 .few, pre .2)
 
 array-write-list : tie.Need-array-write-list Inv-loop μ-loop
 array-write-list c =
-    let pre = c .before .before .before .before .before .before .before .before .before .pre in
+    let pre = let at-loop = c .before .before .before .before in
+    let at-start = at-loop .before .before .before .before .before in
+    at-start .pre in
     omega (arith, pre .0 .few, pre .2, c .before .before .before .before .loop .inv .few)
 
 add-count : tie.Need-add-count Inv-loop μ-loop
 add-count c =
-    let pre = c .before .before .before .before .before .before .before .before .before .pre in
+    let pre = let at-loop = c .before .before .before .before in
+    let at-start = at-loop .before .before .before .before .before in
+    at-start .pre in
     omega (arith, pre .0 .few, pre .2, c .before .before .before .before .loop .inv .few)
 
 loop-less : tie.Need-loop-less Inv-loop μ-loop

@@ -3,7 +3,7 @@ use borrow.Author.Needs.{needs}
 use mathlib.Core.Path.{sym, _∙_}
 use Rattle.survey.proofs.Finding.{Passed, passed-more, passed-hit, passed-all}
 use Rattle.rows.specs.Rows.{rowsOf}
-use Rattle.rows.specs.Laws.{length-rows}
+use Rattle.rows.proofs.InBuffers.{length-rows}
 use Prim.Native.Nat.{_-_}
 use native.Mathlib.Omega.{arith}
 use Rattle.survey.proofs.holder.Statement.{statement}

@@ -1,6 +1,6 @@
 -- One law a way out: no claim, no holder, a holder that is equal or higher, a holder that is lower.
 use mathlib.Core.Path.{sym, _∙_}
-use Rattle.rows.specs.Laws.{length-rows, row-fits, name-part}
+use Rattle.rows.proofs.InBuffers.{length-rows, row-fits, name-part}
 use Rattle.survey.proofs.Finding.{loser-free, loser-alone, loser-newcomer, loser-holder}
 use native.Mathlib.Omega.{arith}
 use borrow.Author.Needs.{needs}
@@ -46,22 +46,36 @@ row-generation-requires-2 c κs = search needs
 returns : tie.Need-returns
 returns c =
     let at-holder = c .before .before .before .before in
-    let pre = at-holder .before .before .before .before .before .before .before .before .pre in
+    let at-is-bound = at-holder .before .before .before .before in
+    let at-start = at-is-bound .before .before .before .before in
+    let pre = at-start .pre in
     let p = name-part _ _ _ _ (pre .0) _ (pre .1) _ (at-holder .before .before .path-len .ensures) .1 in
-    loser-newcomer _ _ _ _ (length-rows _ _ _) (pre .1) _ (sym (at-holder .before .before .before .if1 .taken) ∙ at-holder .before .before .before .before .is-bound .ensures) _ _ (at-holder .holder .ensures) p (c .before .before .before .if2 .taken) _ _ (c .before .before .row-generation .ensures) (c .before .row-generation2 .ensures) (omega (arith, c .if3 .taken))
+    loser-newcomer _ _ _ _ (length-rows _ _ _) (pre .1) _
+    (sym (at-holder .before .before .before .if1 .taken) ∙ at-is-bound .is-bound .ensures) _ _ (at-holder .holder .ensures) p
+    (c .before .before .before .if2 .taken) _ _ (c .before .before .row-generation .ensures) (c .before .row-generation2 .ensures)
+    (omega (arith, c .if3 .taken))
 
 returns-2 : tie.Need-returns-2
 returns-2 c =
     let at-holder = c .before .before .before .before in
-    let pre = at-holder .before .before .before .before .before .before .before .before .pre in
+    let at-is-bound = at-holder .before .before .before .before in
+    let at-start = at-is-bound .before .before .before .before in
+    let pre = at-start .pre in
     let p = name-part _ _ _ _ (pre .0) _ (pre .1) _ (at-holder .before .before .path-len .ensures) .1 in
-    loser-holder _ _ _ _ (length-rows _ _ _) (pre .1) _ (sym (at-holder .before .before .before .if1 .taken) ∙ at-holder .before .before .before .before .is-bound .ensures) _ _ (at-holder .holder .ensures) p (c .before .before .before .if2 .taken) _ _ (c .before .before .row-generation .ensures) (c .before .row-generation2 .ensures) (omega (arith, c .if3 .left))
+    loser-holder _ _ _ _ (length-rows _ _ _) (pre .1) _
+    (sym (at-holder .before .before .before .if1 .taken) ∙ at-is-bound .is-bound .ensures) _ _ (at-holder .holder .ensures) p
+    (c .before .before .before .if2 .taken) _ _ (c .before .before .row-generation .ensures) (c .before .row-generation2 .ensures)
+    (omega (arith, c .if3 .left))
 
 returns-3 : tie.Need-returns-3
 returns-3 c =
-    let pre = c .before .before .before .before .before .before .before .before .before .pre in
+    let at-is-bound = c .before .before .before .before .before in
+    let at-start = at-is-bound .before .before .before .before in
+    let pre = at-start .pre in
     let p = name-part _ _ _ _ (pre .0) _ (pre .1) _ (c .before .before .before .path-len .ensures) .1 in
-    loser-alone _ _ _ _ (length-rows _ _ _) (pre .1) _ (sym (c .before .before .before .before .if1 .taken) ∙ c .before .before .before .before .before .is-bound .ensures) _ _ (c .before .holder .ensures) p (c .if2 .left)
+    loser-alone _ _ _ _ (length-rows _ _ _) (pre .1) _
+    (sym (c .before .before .before .before .if1 .taken) ∙ at-is-bound .is-bound .ensures) _ _ (c .before .holder .ensures) p
+    (c .if2 .left)
 
 returns-4 : tie.Need-returns-4
 returns-4 c = loser-free _ _ _ _ (length-rows _ _ _) (c .before .before .before .before .before .pre .1) _ (sym (c .if1 .left) ∙ c .before .is-bound .ensures)

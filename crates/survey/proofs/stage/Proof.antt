@@ -1,7 +1,7 @@
 -- The invariant `Stages`: the rows so far and the heads ahead are the whole.
 use mathlib.Core.Path.{sym, _∙_}
 use Prim.Native.Nat.{_-_, _+_}
-use Rattle.rows.specs.Laws.{nums-long, names-long}
+use Rattle.rows.proofs.InBuffers.{nums-long, names-long}
 use Rattle.survey.proofs.Staging.{Stages, stages-start, stages-next, stages-held, stages-stop, stages-done}
 use native.Mathlib.Omega.{arith}
 use Rattle.survey.proofs.stage.Statement.{statement}
@@ -21,9 +21,11 @@ loop-holds c = stages-start _ _ _ _ _ _ _ _ _ _ (c .before .before .before .befo
 
 stage-slot-requires : tie.Need-stage-slot-requires Inv-loop μ-loop
 stage-slot-requires c κs =
-    let pre = c .before .before .before .before .before .before .before .before .before .pre in
+    let at-loop = c .before .before .before in
+    let at-start = at-loop .before .before .before .before .before .before in
+    let pre = at-start .pre in
     let loop-test = c .before .before .loop-test in
-    ((pre .0 .0, c .before .before .before .loop .inv .flat), (omega (arith, pre .1 .0, loop-test .taken), omega (arith, pre .1 .1, loop-test .taken)))
+    ((pre .0 .0, at-loop .loop .inv .flat), (omega (arith, pre .1 .0, loop-test .taken), omega (arith, pre .1 .1, loop-test .taken)))
 
 unstage-requires : tie.Need-unstage-requires Inv-loop μ-loop
 unstage-requires c κs =
@@ -31,17 +33,31 @@ unstage-requires c κs =
     stages-held _ _ _ _ _ _ _ _ _ _ _ _ (at-slot .before .before .before .loop-test .taken) _ _ _ _ _ _ (at-slot .before .before .before .before .loop .inv) (at-slot .stage-slot .ensures) (c .before .before .if1 .taken)
 
 same-length : tie.Need-same-length Inv-loop μ-loop
-same-length c = nums-long _ _ _ _ (c .before .before .before .before .unstage .ensures .1) ∙ sym (nums-long _ _ _ _ (c .before .before .before .before .before .before .before .before .before .before .before .before .before .before .before .before .before .before .before .before .before .before .pre .0 .1))
+same-length c =
+    let at-unstage = c .before .before .before .before in
+    let after-start-2 = at-unstage .before .before .before .before .before .before .before in
+    let after-start = after-start-2 .before .before .before .before .before .before .before in
+    let at-start = after-start .before .before .before .before in
+    nums-long _ _ _ _ (at-unstage .unstage .ensures .1) ∙ sym (nums-long _ _ _ _ (at-start .pre .0 .1))
 
 same-length-2 : tie.Need-same-length-2 Inv-loop μ-loop
-same-length-2 c = names-long _ _ _ _ (c .before .before .before .before .unstage .ensures .1) ∙ sym (names-long _ _ _ _ (c .before .before .before .before .before .before .before .before .before .before .before .before .before .before .before .before .before .before .before .before .before .before .pre .0 .1))
+same-length-2 c =
+    let at-unstage = c .before .before .before .before in
+    let after-start-2 = at-unstage .before .before .before .before .before .before .before in
+    let after-start = after-start-2 .before .before .before .before .before .before .before in
+    let at-start = after-start .before .before .before .before in
+    names-long _ _ _ _ (at-unstage .unstage .ensures .1) ∙ sym (names-long _ _ _ _ (at-start .pre .0 .1))
 
 returns : tie.Need-returns Inv-loop μ-loop
 returns c =
     let at-unstage = c .before .before .before .before in
-    let at-slot = at-unstage .before .before .before .before .before .before .before .before in
+    let at-if1 = at-unstage .before .before .before in
+    let at-slot = at-if1 .before .before .before .before .before in
+    let at-loop = at-slot .before .before .before .before in
+    let at-start = at-loop .before .before .before .before .before .before in
     let unstage = at-unstage .unstage in
-    stages-stop _ _ _ _ _ _ _ _ _ _ _ _ (at-slot .before .before .before .loop-test .taken) _ _ _ _ _ _ (at-slot .before .before .before .before .loop .inv) (at-slot .stage-slot .ensures) _ _ (at-unstage .before .before .before .if1 .taken) (at-slot .before .before .before .before .before .before .before .before .before .before .pre .0 .1) (unstage .ensures .0) (unstage .ensures .1)
+    stages-stop _ _ _ _ _ _ _ _ _ _ _ _ (at-slot .before .before .before .loop-test .taken) _ _ _ _ _ _ (at-loop .loop .inv)
+    (at-slot .stage-slot .ensures) _ _ (at-if1 .if1 .taken) (at-start .pre .0 .1) (unstage .ensures .0) (unstage .ensures .1)
 
 add-i : tie.Need-add-i Inv-loop μ-loop
 add-i c = omega arith

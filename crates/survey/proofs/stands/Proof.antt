@@ -1,6 +1,6 @@
 -- Carried by `stands-same` and `stands-other`: the row's part of the names is its path, and paths with two keys differ.
 use mathlib.Core.Path.{sym, _∙_}
-use Rattle.rows.specs.Laws.{row-fits, name-part}
+use Rattle.rows.proofs.InBuffers.{row-fits, name-part}
 use Rattle.survey.proofs.Finding.{stands-lost, stands-unbound, stands-same, stands-other}
 use native.Mathlib.Omega.{arith}
 use borrow.Author.Needs.{needs}
@@ -23,12 +23,14 @@ path-len-requires c κs = search needs
 
 mul-from : tie.Need-mul-from
 mul-from c =
-    let pre = c .before .before .before .before .before .before .before .before .before .pre in
+    let pre = let after-start = c .before .before .before .before .before .before .before in
+    after-start .before .before .pre in
     omega (arith, row-fits _ _ _ _ (pre .0) _ (pre .1), name-part _ _ _ _ (pre .0) _ (pre .1) _ (c .path-len .ensures) .0)
 
 add-to : tie.Need-add-to
 add-to c =
-    let pre = c .before .before .before .before .before .before .before .before .before .pre in
+    let pre = let after-start = c .before .before .before .before .before .before .before in
+    after-start .before .before .pre in
     omega (arith, row-fits _ _ _ _ (pre .0) _ (pre .1), name-part _ _ _ _ (pre .0) _ (pre .1) _ (c .path-len .ensures) .0)
 
 sub-key : tie.Need-sub-key
@@ -39,7 +41,8 @@ part-key-start c = search needs
 
 part-key-end : tie.Need-part-key-end
 part-key-end c =
-    let pre = c .before .before .before .before .before .before .before .before .before .pre in
+    let pre = let after-start = c .before .before .before .before .before .before .before in
+    after-start .before .before .pre in
     omega (arith, name-part _ _ _ _ (pre .0) _ (pre .1) _ (c .path-len .ensures) .0)
 
 key-requires : tie.Need-key-requires
@@ -48,8 +51,12 @@ key-requires c κs = search needs
 returns-2 : tie.Need-returns-2
 returns-2 c =
     let at-path = c .before .before .before in
-    let pre = at-path .before .before .before .before .before .before .before .before .before .pre in
-    stands-other _ _ _ _ (pre .0) _ _ _ _ (pre .1) (pre .3) _ (at-path .before .before .before .if1 .left) (sym (at-path .before .if2 .taken) ∙ at-path .before .before .is-bound .ensures) (at-path .path-len .ensures) (λ e. c .if3 .taken (c .before .key .ensures ∙ e))
+    let at-if1 = at-path .before .before .before in
+    let at-start = at-if1 .before .before .before .before .before .before in
+    let pre = at-start .pre in
+    stands-other _ _ _ _ (pre .0) _ _ _ _ (pre .1) (pre .3) _ (at-if1 .if1 .left)
+    (sym (at-path .before .if2 .taken) ∙ at-path .before .before .is-bound .ensures) (at-path .path-len .ensures)
+    (λ e. c .if3 .taken (c .before .key .ensures ∙ e))
 
 sub-same-path : tie.Need-sub-same-path
 sub-same-path c = search needs
@@ -60,7 +67,8 @@ part-same-path-start c = search needs
 part-same-path-end : tie.Need-part-same-path-end
 part-same-path-end c =
     let at-path = c .before .before .before in
-    let pre = at-path .before .before .before .before .before .before .before .before .before .pre in
+    let pre = let after-start = at-path .before .before .before .before .before .before .before in
+    after-start .before .before .pre in
     omega (arith, name-part _ _ _ _ (pre .0) _ (pre .1) _ (at-path .path-len .ensures) .0)
 
 same-path-requires : tie.Need-same-path-requires
@@ -69,13 +77,18 @@ same-path-requires c κs = search needs
 returns-3 : tie.Need-returns-3
 returns-3 c =
     let at-path = c .before .before .before .before .before in
-    let pre = at-path .before .before .before .before .before .before .before .before .before .pre in
-    c .same-path .ensures ∙ stands-same _ _ _ _ (pre .0) _ _ _ _ (pre .1) (pre .3) _ (at-path .before .before .before .if1 .left) (sym (at-path .before .if2 .taken) ∙ at-path .before .before .is-bound .ensures) (at-path .path-len .ensures)
+    let at-if1 = at-path .before .before .before in
+    let at-start = at-if1 .before .before .before .before .before .before in
+    let pre = at-start .pre in
+    c .same-path .ensures ∙ stands-same _ _ _ _ (pre .0) _ _ _ _ (pre .1) (pre .3) _ (at-if1 .if1 .left)
+    (sym (at-path .before .if2 .taken) ∙ at-path .before .before .is-bound .ensures) (at-path .path-len .ensures)
 
 returns-4 : tie.Need-returns-4
 returns-4 c =
-    let pre = c .before .before .before .before .before .before .before .before .pre in
-    stands-unbound _ _ _ _ (pre .0) _ _ _ _ (pre .1) (pre .3) (c .before .before .if1 .left) (sym (c .if2 .left) ∙ c .before .is-bound .ensures)
+    let at-if1 = c .before .before in
+    let at-start = at-if1 .before .before .before .before .before .before in
+    let pre = at-start .pre in
+    stands-unbound _ _ _ _ (pre .0) _ _ _ _ (pre .1) (pre .3) (at-if1 .if1 .left) (sym (c .if2 .left) ∙ c .before .is-bound .ensures)
 
 pub stands-spec : {M : Type 1} → statement M
 stands-spec =

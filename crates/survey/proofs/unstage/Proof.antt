@@ -3,7 +3,7 @@ use mathlib.Core.Path.{sym, _∙_, _≡_}
 use Prim.Native.Nat.{_≤_, _-_}
 use lib.ListN.{take}
 use Rattle.rows.specs.Rows.{rowsOf, Flat}
-use Rattle.rows.specs.Laws.{length-rows, nums-long, names-long}
+use Rattle.rows.proofs.InBuffers.{length-rows, nums-long, names-long}
 use Rattle.survey.proofs.Staging.{fewer, all-rows}
 use native.Mathlib.Omega.{arith}
 use Rattle.survey.proofs.unstage.Statement.{statement}

@@ -1,3 +1,4 @@
+-- A turn of the loop looks at one byte: `in-here`, `in-more`, and `in-none` at the end.
 use mathlib.Core.Path.{_∙_, _≡_, sym, refl}
 use Prim.Native.Nat.{_≤_, _-_}
 use lib.ListN.{length, drop}
@@ -15,35 +16,36 @@ Inv-loop s x i₀ i = (i ≤ length s) × (isIn x (drop i s) ≡ isIn x s)
 abbrev μ-loop : tie.MeasureT-loop
 μ-loop s x i₀ i = length s - i
 
--- src/lib.rt:27:5
 loop-holds : tie.Need-loop-holds Inv-loop μ-loop
 loop-holds c = (omega arith, refl)
 
--- src/lib.rt:28:12
 shared-slice-read-if1 : tie.Need-shared-slice-read-if1 Inv-loop μ-loop
 shared-slice-read-if1 c = omega arith
 
--- src/lib.rt:28:12
 cast-if1 : tie.Need-cast-if1 Inv-loop μ-loop
 cast-if1 c = omega (arith, c .shared-slice-known .given (c .before .before .loop .i))
 
--- src/lib.rt:29:13
 returns : tie.Need-returns Inv-loop μ-loop
-returns c = sym (in-here (c .before .before .before .before .args .x) (c .before .before .before .before .args .s .now) (c .before .before .before .loop .i) (omega arith) (c .if1 .taken)) ∙ c .before .before .before .loop .inv .1
+returns c =
+    let at-loop = c .before .before .before in
+    let at-start = at-loop .before in
+    sym (in-here (at-start .args .x) (at-start .args .s .now) (at-loop .loop .i) (omega arith) (c .if1 .taken)) ∙ at-loop .loop .inv .1
 
--- src/lib.rt:31:9
 add-i : tie.Need-add-i Inv-loop μ-loop
 add-i c = omega arith
 
--- src/lib.rt:27:5
 loop-less : tie.Need-loop-less Inv-loop μ-loop
 loop-less c = omega arith
 
--- src/lib.rt:27:5
 loop-again : tie.Need-loop-again Inv-loop μ-loop
-loop-again c = (omega arith, in-more (c .before .before .before .before .args .x) (c .before .before .before .before .args .s .now) (c .before .before .before .loop .i) (omega arith) (c .if1 .left) ∙ c .before .before .before .loop .inv .1)
+loop-again c =
+    let at-loop = c .before .before .before in
+    let at-start = at-loop .before in (
+      omega arith,
+      in-more (at-start .args .x) (at-start .args .s .now) (at-loop .loop .i) (omega arith)
+          (c .if1 .left) ∙ at-loop .loop .inv .1,
+    )
 
--- src/lib.rt:23:1
 returns-2 : tie.Need-returns-2 Inv-loop μ-loop
 returns-2 c = in-none (c .before .before .args .x) (c .before .before .args .s .now) (c .before .loop .i) (omega arith) ∙ c .before .loop .inv .1
 

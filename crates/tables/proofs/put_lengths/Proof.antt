@@ -2,11 +2,12 @@
 use mathlib.Core.Path.{_∙_, _≡_, sym, refl}
 use Prim.Native.Nat.{ℕ, _≤_, _-_, _+_, _*_}
 use lib.ListN.{length, drop, getD}
+use Rattle.limits.specs.Limits.{rowWidth}
 use Rattle.lists.specs.Blocks.{cat}
 use Rattle.le.specs.Le.{le}
-use Rattle.le.specs.Fields.{length-le}
+use Rattle.le.proofs.Fields.{length-le}
 use Rattle.writer.specs.Writer.{Shown, shown, pours}
-use Rattle.writer.specs.Laws.{after-pours, cat-turn, cat-end}
+use Rattle.writer.proofs.InParts.{after-pours, cat-turn, cat-end}
 use mathlib.Core.List.{List}
 use native.Mathlib.Omega.{arith}
 use Rattle.tables.proofs.put_lengths.Statement.{statement}
@@ -14,7 +15,7 @@ use Rattle.tables.proofs.put_lengths.Tie as tie
 
 abbrev Inv-loop : tie.InvT-loop
 Inv-loop phys out₀ at a₀ i₀ out a i =
-    (i ≤ length phys) × (a ≤ at + i * 4) × (length out ≡ length out₀)
+    (i ≤ length phys) × (a ≤ at + i * rowWidth) × (length out ≡ length out₀)
     × (pours (cat (le 4) (drop i phys)) (shown out a) ≡ pours (cat (le 4) phys) (shown out₀ at))
 
 abbrev μ-loop : tie.MeasureT-loop

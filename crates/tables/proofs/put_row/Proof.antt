@@ -1,13 +1,15 @@
+-- Carried by `row-is`: the marks, the generation, the length and the path's run of one row.
 use mathlib.Core.Path.{_∙_, ap, _≡_}
 use mathlib.Core.List.{List, _++_}
 use Prim.Native.Nat.{ℕ, _*_, _+_, _-_, _≤_, _<_}
 use lib.ListN.{length, take, drop}
+use Rattle.limits.specs.Limits.{maxPath}
 use Rattle.le.specs.Le.{le}
-use Rattle.le.specs.Fields.{length-le}
-use Rattle.rows.specs.Laws.{name-part}
+use Rattle.le.proofs.Fields.{length-le}
+use Rattle.rows.proofs.InBuffers.{name-part}
 use Rattle.rows.specs.Rows.{Flat, rowsOf, at, pathOf}
 use Rattle.writer.specs.Writer.{shown, pours, runOf}
-use Rattle.writer.specs.Laws.{after-pours, pours-then}
+use Rattle.writer.proofs.InParts.{after-pours, pours-then}
 use Rattle.tables.proofs.Turns.{row-is, length-run}
 use native.Mathlib.Omega.{arith}
 use borrow.Author.Needs.{needs}
@@ -22,75 +24,159 @@ use Rattle.tables.proofs.marks.Reads as marks-reads
 use Rattle.writer.proofs.put_le.Reads as put-le-reads
 use Rattle.writer.proofs.put_run.Reads as put-run-reads
 
--- src/lib.rt:69:9
 marks-requires : tie.Need-marks-requires
 marks-requires c κs = search needs
 
--- src/lib.rt:70:9
 row-generation-requires : tie.Need-row-generation-requires
 row-generation-requires c κs = search needs
 
--- src/lib.rt:71:9
 row-len-requires : tie.Need-row-len-requires
 row-len-requires c κs = search needs
 
--- src/lib.rt:72:9
 path-len-requires : tie.Need-path-len-requires
 path-len-requires c κs = search needs
 
--- src/lib.rt:73:16
 mul-from : tie.Need-mul-from
-mul-from c = omega (arith, name-part _ _ _ _ (c .before .before .before .before .before .before .before .before .pre .0) (c .before .before .before .before .before .before .before .before .args .i) (c .before .before .before .before .before .before .before .before .pre .1) _ (c .path-len .ensures) .0)
+mul-from c = omega (
+  arith,
+  (let after-start = c .before .before .before .before .before .before .before in
+      let at-start = after-start .before in
+      name-part _ _ _ _ (at-start .pre .0) (at-start .args .i) (at-start .pre .1) _ (c .path-len .ensures) .0),
+)
 
--- src/lib.rt:74:9
 put-le-requires : tie.Need-put-le-requires
 put-le-requires c κs = search needs
 
--- src/lib.rt:75:9
 put-le-requires-2 : tie.Need-put-le-requires-2
-put-le-requires-2 c κs = omega (arith, after-pours _ _ (c .before .before .before .put-le .ensures), length-le 1 (c .before .before .before .before .before .before .before .before .marks .result))
+put-le-requires-2 c κs = omega (
+  arith,
+  after-pours _ _ (c .before .before .before .put-le .ensures),
+  (let at-put-le = c .before .before .before in
+      let at-marks = at-put-le .before .before .before .before .before in
+      length-le 1 (at-marks .marks .result)),
+)
 
--- src/lib.rt:76:9
 put-le-requires-3 : tie.Need-put-le-requires-3
-put-le-requires-3 c κs = omega (arith, after-pours _ _ (c .before .before .before .before .before .before .before .put-le .ensures), length-le 1 (c .before .before .before .before .before .before .before .before .before .before .before .before .marks .result), after-pours _ _ (c .before .before .before .put-le2 .ensures), length-le 8 (c .before .before .before .before .before .before .before .before .before .before .before .row-generation .result))
+put-le-requires-3 c κs = omega (
+  arith,
+  after-pours _ _ (c .before .before .before .before .before .before .before .put-le .ensures),
+  (let at-put-le = c .before .before .before .before .before .before .before in
+      let at-marks = at-put-le .before .before .before .before .before in
+      length-le 1 (at-marks .marks .result)),
+  after-pours _ _ (c .before .before .before .put-le2 .ensures),
+  (let at-put-le = c .before .before .before .before .before .before .before in
+      let at-row-generation = at-put-le .before .before .before .before in
+      length-le 8 (at-row-generation .row-generation .result)),
+)
 
--- src/lib.rt:77:42
 add-put-run : tie.Need-add-put-run
-add-put-run c = omega (arith, c .before .before .before .before .before .before .before .before .before .before .before .before .before .before .before .before .before .before .before .before .before .good .1 .0 .0, name-part _ _ _ _ (c .before .before .before .before .before .before .before .before .before .before .before .before .before .before .before .before .before .before .before .before .before .pre .0) (c .before .before .before .before .before .before .before .before .before .before .before .before .before .before .before .before .before .before .before .before .before .args .i) (c .before .before .before .before .before .before .before .before .before .before .before .before .before .before .before .before .before .before .before .before .before .pre .1) _ (c .before .before .before .before .before .before .before .before .before .before .before .before .before .path-len .ensures) .0)
+add-put-run c = omega (
+  arith,
+  (let after-start-2 = c .before .before .before .before .before .before .before in
+      let after-start = after-start-2 .before .before .before .before .before .before .before in
+      let at-start = after-start .before .before .before .before .before .before .before in
+      at-start .good .1 .0 .0),
+  (let after-path-len = c .before .before .before .before .before .before .before in
+      let at-path-len = after-path-len .before .before .before .before .before .before in
+      let after-start = at-path-len .before .before .before .before .before .before .before in
+      let at-start = after-start .before in
+      name-part _ _ _ _ (at-start .pre .0) (at-start .args .i) (at-start .pre .1) _ (at-path-len .path-len .ensures) .0),
+)
 
--- src/lib.rt:77:29
 sub-put-run : tie.Need-sub-put-run
 sub-put-run c = search needs
 
--- src/lib.rt:77:29
 part-put-run-start : tie.Need-part-put-run-start
 part-put-run-start c = search needs
 
--- src/lib.rt:77:29
 part-put-run-end : tie.Need-part-put-run-end
-part-put-run-end c = omega (arith, name-part _ _ _ _ (c .before .before .before .before .before .before .before .before .before .before .before .before .before .before .before .before .before .before .before .before .before .pre .0) (c .before .before .before .before .before .before .before .before .before .before .before .before .before .before .before .before .before .before .before .before .before .args .i) (c .before .before .before .before .before .before .before .before .before .before .before .before .before .before .before .before .before .before .before .before .before .pre .1) _ (c .before .before .before .before .before .before .before .before .before .before .before .before .before .path-len .ensures) .0)
+part-put-run-end c = omega (
+  arith,
+  (let after-path-len = c .before .before .before .before .before .before .before in
+      let at-path-len = after-path-len .before .before .before .before .before .before in
+      let after-start = at-path-len .before .before .before .before .before .before .before in
+      let at-start = after-start .before in
+      name-part _ _ _ _ (at-start .pre .0) (at-start .args .i) (at-start .pre .1) _ (at-path-len .path-len .ensures) .0),
+)
 
--- src/lib.rt:77:5
 put-run-requires : tie.Need-put-run-requires
 put-run-requires c κs =
-    let n = name-part _ _ _ _ (c .before .before .before .before .before .before .before .before .before .before .before .before .before .before .before .before .before .before .before .before .before .before .pre .0) (c .before .before .before .before .before .before .before .before .before .before .before .before .before .before .before .before .before .before .before .before .before .before .args .i) (c .before .before .before .before .before .before .before .before .before .before .before .before .before .before .before .before .before .before .before .before .before .before .pre .1) _ (c .before .before .before .before .before .before .before .before .before .before .before .before .before .before .path-len .ensures) in
-    omega (arith, after-pours _ _ (c .before .before .before .before .before .before .before .before .before .before .before .before .put-le .ensures), length-le 1 (c .before .before .before .before .before .before .before .before .before .before .before .before .before .before .before .before .before .marks .result), after-pours _ _ (c .before .before .before .before .before .before .before .before .put-le2 .ensures), length-le 8 (c .before .before .before .before .before .before .before .before .before .before .before .before .before .before .before .before .row-generation .result), after-pours _ _ (c .before .before .before .before .put-le3 .ensures), length-le 8 (c .before .before .before .before .before .before .before .before .before .before .before .before .before .before .before .row-len .result), ap length (n .1), c .before .before .before .before .before .before .before .before .before .before .before .before .before .before .before .before .before .before .before .before .before .before .pre .0 .short (c .before .before .before .before .before .before .before .before .before .before .before .before .before .before .before .before .before .before .before .before .before .before .args .i))
+    let n = let at-put-le3 = c .before .before .before .before in
+    let at-put-le2 = at-put-le3 .before .before .before .before in
+    let at-path-len = at-put-le2 .before .before .before .before .before .before in
+    let at-marks = at-path-len .before .before .before in
+    let at-start = at-marks .before .before .before .before .before in
+    name-part _ _ _ _ (at-start .pre .0) (at-start .args .i) (at-start .pre .1) _ (at-path-len .path-len .ensures) in
+    omega (
+      arith,
+      (let at-put-le3 = c .before .before .before .before in
+          let at-put-le2 = at-put-le3 .before .before .before .before in
+          let at-put-le = at-put-le2 .before .before .before .before in
+          after-pours _ _ (at-put-le .put-le .ensures)),
+      (let at-put-le3 = c .before .before .before .before in
+          let at-put-le2 = at-put-le3 .before .before .before .before in
+          let at-row-len = at-put-le2 .before .before .before .before .before .before .before in
+          length-le 1 (at-row-len .before .before .marks .result)),
+      (let at-put-le3 = c .before .before .before .before in
+          let at-put-le2 = at-put-le3 .before .before .before .before in
+          after-pours _ _ (at-put-le2 .put-le2 .ensures)),
+      (let at-put-le3 = c .before .before .before .before in
+          let at-put-le2 = at-put-le3 .before .before .before .before in
+          let at-row-len = at-put-le2 .before .before .before .before .before .before .before in
+          length-le 8 (at-row-len .before .row-generation .result)),
+      after-pours _ _ (c .before .before .before .before .put-le3 .ensures),
+      (let at-put-le3 = c .before .before .before .before in
+          let at-put-le2 = at-put-le3 .before .before .before .before in
+          let at-row-len = at-put-le2 .before .before .before .before .before .before .before in
+          length-le 8 (at-row-len .row-len .result)),
+      ap length (n .1),
+      (let at-put-le3 = c .before .before .before .before in
+          let at-put-le2 = at-put-le3 .before .before .before .before in
+          let at-row-len = at-put-le2 .before .before .before .before .before .before .before in
+          let at-start = at-row-len .before .before .before .before .before .before .before in
+          at-start .pre .0 .short (at-start .args .i)),
+    )
 
--- src/lib.rt:55:1
 same-length : tie.Need-same-length
 same-length c = search needs
 
--- src/lib.rt:55:1
 returns : tie.Need-returns
 returns c =
-    let n = name-part _ _ _ _ (c .before .before .before .before .before .before .before .before .before .before .before .before .before .before .before .before .before .before .before .before .before .before .before .before .before .pre .0) (c .before .before .before .before .before .before .before .before .before .before .before .before .before .before .before .before .before .before .before .before .before .before .before .before .before .args .i) (c .before .before .before .before .before .before .before .before .before .before .before .before .before .before .before .before .before .before .before .before .before .before .before .before .before .pre .1) _ (c .before .before .before .before .before .before .before .before .before .before .before .before .before .before .before .before .before .path-len .ensures) in
-    let rs = rowsOf (c .before .before .before .before .before .before .before .before .before .before .before .before .before .before .before .before .before .before .before .before .before .before .before .before .before .args .nums .now) (c .before .before .before .before .before .before .before .before .before .before .before .before .before .before .before .before .before .before .before .before .before .before .before .before .before .args .names .now) (c .before .before .before .before .before .before .before .before .before .before .before .before .before .before .before .before .before .before .before .before .before .before .before .before .before .args .n) in
-    let p : List ℕ = take (c .before .before .before .before .before .before .before .before .before .before .before .before .before .before .before .before .before .before .before .before .before .before .before .before .before .args .i * 480 + c .before .before .before .before .before .before .before .before .before .before .before .before .before .before .before .before .before .path-len .result - c .before .before .before .before .before .before .before .before .before .before .before .before .before .before .before .before .before .before .before .before .before .before .before .before .before .args .i * 480) (drop (c .before .before .before .before .before .before .before .before .before .before .before .before .before .before .before .before .before .before .before .before .before .before .before .before .before .args .i * 480) (c .before .before .before .before .before .before .before .before .before .before .before .before .before .before .before .before .before .before .before .before .before .before .before .before .before .args .names .now)) in (
-      pours-then (le 1 (c .before .before .before .before .before .before .before .before .before .before .before .before .before .before .before .before .before .before .before .before .marks .result)) (le 8 (c .before .before .before .before .before .before .before .before .before .before .before .before .before .before .before .before .before .before .before .row-generation .result) ++ le 8 (c .before .before .before .before .before .before .before .before .before .before .before .before .before .before .before .before .before .before .row-len .result) ++ runOf p) (shown (c .before .before .before .before .before .before .before .before .before .before .before .before .before .before .before .before .before .before .before .before .before .before .before .before .before .args .out .now) (c .before .before .before .before .before .before .before .before .before .before .before .before .before .before .before .before .before .before .before .before .before .before .before .before .before .args .at)) (c .before .before .before .before .before .before .before .before .before .before .before .before .before .before .before .put-le .ensures)
-          (pours-then (le 8 (c .before .before .before .before .before .before .before .before .before .before .before .before .before .before .before .before .before .before .before .row-generation .result)) (le 8 (c .before .before .before .before .before .before .before .before .before .before .before .before .before .before .before .before .before .before .row-len .result) ++ runOf p) _ (c .before .before .before .before .before .before .before .before .before .before .before .put-le2 .ensures)
-          (pours-then (le 8 (c .before .before .before .before .before .before .before .before .before .before .before .before .before .before .before .before .before .before .row-len .result)) (runOf p) _ (c .before .before .before .before .before .before .before .put-le3 .ensures) (c .before .before .put-run .ensures)))
-          ∙ ap (λ (t : List ℕ). pours t (shown (c .before .before .before .before .before .before .before .before .before .before .before .before .before .before .before .before .before .before .before .before .before .before .before .before .before .args .out .now) (c .before .before .before .before .before .before .before .before .before .before .before .before .before .before .before .before .before .before .before .before .before .before .before .before .before .args .at))) (row-is (c .before .before .before .before .before .before .before .before .before .before .before .before .before .before .before .before .before .before .before .before .before .before .before .before .before .args .queue .now) rs (c .before .before .before .before .before .before .before .before .before .before .before .before .before .before .before .before .before .before .before .before .before .before .before .before .before .args .i) _ _ _ p (c .before .before .before .before .before .before .before .before .before .before .before .before .before .before .before .before .before .before .before .before .marks .ensures) (c .before .before .before .before .before .before .before .before .before .before .before .before .before .before .before .before .before .before .before .row-generation .ensures) (c .before .before .before .before .before .before .before .before .before .before .before .before .before .before .before .before .before .before .row-len .ensures) (n .1)),
-      omega (arith, after-pours _ _ (c .before .before .before .before .before .before .before .before .before .before .before .before .before .before .before .put-le .ensures), length-le 1 (c .before .before .before .before .before .before .before .before .before .before .before .before .before .before .before .before .before .before .before .before .marks .result), after-pours _ _ (c .before .before .before .before .before .before .before .before .before .before .before .put-le2 .ensures), length-le 8 (c .before .before .before .before .before .before .before .before .before .before .before .before .before .before .before .before .before .before .before .row-generation .result), after-pours _ _ (c .before .before .before .before .before .before .before .put-le3 .ensures), length-le 8 (c .before .before .before .before .before .before .before .before .before .before .before .before .before .before .before .before .before .before .row-len .result), after-pours _ _ (c .before .before .put-run .ensures), length-run p, ap length (n .1), c .before .before .before .before .before .before .before .before .before .before .before .before .before .before .before .before .before .before .before .before .before .before .before .before .before .pre .0 .short (c .before .before .before .before .before .before .before .before .before .before .before .before .before .before .before .before .before .before .before .before .before .before .before .before .before .args .i)),
+    let at-put-le3 = c .before .before .before .before .before .before .before in
+    let at-put-le2 = at-put-le3 .before .before .before .before in
+    let at-put-le = at-put-le2 .before .before .before .before in
+    let at-path-len = at-put-le .before .before in
+    let at-row-len = at-path-len .before in
+    let at-row-generation = at-row-len .before in
+    let at-marks = at-row-generation .before in
+    let at-start = at-marks .before .before .before .before .before in
+    let n = name-part _ _ _ _ (at-start .pre .0) (at-start .args .i) (at-start .pre .1) _ (at-path-len .path-len .ensures) in
+    let rs = rowsOf (at-start .args .nums .now) (at-start .args .names .now) (at-start .args .n) in
+    let p : List ℕ = take (at-start .args .i * maxPath + at-path-len .path-len .result - at-start .args .i * maxPath)
+    (drop (at-start .args .i * maxPath) (at-start .args .names .now)) in (
+      pours-then (le 1 (at-marks .marks .result))
+          (le 8 (at-row-generation .row-generation .result) ++ le 8 (at-row-len .row-len .result) ++ runOf p)
+          (shown (at-start .args .out .now) (at-start .args .at)) (at-put-le .put-le .ensures)
+          (pours-then (le 8 (at-row-generation .row-generation .result)) (le 8 (at-row-len .row-len .result) ++ runOf p) _
+          (at-put-le2 .put-le2 .ensures)
+          (pours-then (le 8 (at-row-len .row-len .result)) (runOf p) _ (at-put-le3 .put-le3 .ensures)
+          (c .before .before .put-run .ensures)))
+          ∙ ap (λ (t : List ℕ). pours t (shown (at-start .args .out .now) (at-start .args .at)))
+          (row-is (at-start .args .queue .now) rs (at-start .args .i) _ _ _ p (at-marks .marks .ensures)
+          (at-row-generation .row-generation .ensures) (at-row-len .row-len .ensures) (n .1)),
+      omega (
+        arith,
+        after-pours _ _ (at-put-le .put-le .ensures),
+        length-le 1 (at-marks .marks .result),
+        after-pours _ _ (at-put-le2 .put-le2 .ensures),
+        length-le 8 (at-row-generation .row-generation .result),
+        after-pours _ _ (at-put-le3 .put-le3 .ensures),
+        length-le 8 (at-row-len .row-len .result),
+        after-pours _ _ (c .before .before .put-run .ensures),
+        length-run p,
+        ap length (n .1),
+        at-start .pre .0 .short (at-start .args .i),
+      ),
     )
 
 pub put-row-spec : {M : Type 1} → statement M

@@ -24,7 +24,9 @@ loop-holds : tie.Need-loop-holds Inv-loop μ-loop
 loop-holds c = (omega arith, omega arith, refl, rw sub-zero)
 
 put-row-requires : tie.Need-put-row-requires Inv-loop μ-loop
-put-row-requires c κs = (c .before .before .before .before .before .before .before .pre .0, omega arith, omega (arith, c .before .before .loop .inv .1, c .before .before .before .before .before .before .before .pre .1, c .before .before .before .before .before .before .before .pre .2))
+put-row-requires c κs =
+    let at-start = c .before .before .before .before .before .before .before in
+    (at-start .pre .0, omega arith, omega (arith, c .before .before .loop .inv .1, at-start .pre .1, at-start .pre .2))
 
 add-i : tie.Need-add-i Inv-loop μ-loop
 add-i c = omega arith
@@ -34,17 +36,31 @@ loop-less c = omega arith
 
 loop-again : tie.Need-loop-again Inv-loop μ-loop
 loop-again c =
-    let a = c .before .before .before .before .before .loop in
-    let f : ℕ → List ℕ = rowShown (c .before .before .before .before .before .before .before .before .before .before .args .queue .now) (rowsOf (c .before .before .before .before .before .before .before .before .before .before .args .nums .now) (c .before .before .before .before .before .before .before .before .before .before .args .names .now) (c .before .before .before .before .before .before .before .before .before .before .args .n)) in
-    (omega arith, omega (arith, a .inv .1, c .before .before .put-row .ensures .1), c .before .before .put-row .kept .1 .1 .1 .1 .1 .1 .0 ∙ a .inv .2, turn (f (a .i)) (cat f (range (a .i + 1) (c .before .before .before .before .before .before .before .before .before .before .args .n - (a .i + 1)))) (cat f (range (a .i) (c .before .before .before .before .before .before .before .before .before .before .args .n - a .i))) (shown (a .out) (a .a)) (each-more f (c .before .before .before .before .before .before .before .before .before .before .args .n) (a .i) (omega arith)) (c .before .before .put-row .ensures .0) ∙ a .inv .3)
+    let at-loop = c .before .before .before .before .before in
+    let at-start = at-loop .before .before .before .before .before in
+    let a = at-loop .loop in
+    let f : ℕ → List ℕ = rowShown (at-start .args .queue .now)
+    (rowsOf (at-start .args .nums .now) (at-start .args .names .now) (at-start .args .n)) in (
+      omega arith,
+      omega (arith, a .inv .1, c .before .before .put-row .ensures .1),
+      c .before .before .put-row .kept .1 .1 .1 .1 .1 .1 .0 ∙ a .inv .2,
+      turn (f (a .i)) (cat f (range (a .i + 1) (at-start .args .n - (a .i + 1)))) (cat f (range (a .i) (at-start .args .n - a .i)))
+          (shown (a .out) (a .a)) (each-more f (at-start .args .n) (a .i) (omega arith))
+          (c .before .before .put-row .ensures .0) ∙ a .inv .3,
+    )
 
 same-length : tie.Need-same-length Inv-loop μ-loop
 same-length c = c .before .loop .inv .2
 
 returns : tie.Need-returns Inv-loop μ-loop
 returns c =
-    let f : ℕ → List ℕ = rowShown (c .before .before .before .before .before .before .args .queue .now) (rowsOf (c .before .before .before .before .before .before .args .nums .now) (c .before .before .before .before .before .before .args .names .now) (c .before .before .before .before .before .before .args .n)) in
-    (done (cat f (range (c .before .loop .i) (c .before .before .before .before .before .before .args .n - c .before .loop .i))) (shown (c .before .loop .out) (c .before .loop .a)) (each-end f (c .before .before .before .before .before .before .args .n) (c .before .loop .i) (omega arith)) ∙ c .before .loop .inv .3, omega (arith, c .before .loop .inv .1))
+    let at-start = c .before .before .before .before .before .before in
+    let f : ℕ → List ℕ = rowShown (at-start .args .queue .now)
+    (rowsOf (at-start .args .nums .now) (at-start .args .names .now) (at-start .args .n)) in (
+      done (cat f (range (c .before .loop .i) (at-start .args .n - c .before .loop .i))) (shown (c .before .loop .out) (c .before .loop .a))
+          (each-end f (at-start .args .n) (c .before .loop .i) (omega arith)) ∙ c .before .loop .inv .3,
+      omega (arith, c .before .loop .inv .1),
+    )
 
 pub put-rows-spec : {M : Type 1} → statement M
 put-rows-spec =

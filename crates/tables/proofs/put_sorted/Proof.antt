@@ -3,6 +3,7 @@ use mathlib.Core.Path.{_≡_, _∙_, sym, ap, subst}
 use mathlib.Core.List.{List}
 use Prim.Native.Nat.{ℕ, _≤_, _*_}
 use lib.ListN.{length}
+use Rattle.limits.specs.Limits.{dirWidth}
 use Rattle.lists.specs.Blocks.{cat}
 use Rattle.lists.specs.Sort.{sort}
 use Rattle.dirs.specs.Rows.{dirsOf}
@@ -17,7 +18,7 @@ use Rattle.tables.proofs.put_sorted.Statement.{statement}
 use Rattle.tables.proofs.put_sorted.Tie as tie
 
 -- the parts as they are written
-parts : (d : List ℕ) (m : ℕ) (s s′ : List ℕ) → length s ≡ m → s′ ≡ sets s 0 (dirSpans (dirsOf d m)) → m * 482 ≤ length d
+parts : (d : List ℕ) (m : ℕ) (s s′ : List ℕ) → length s ≡ m → s′ ≡ sets s 0 (dirSpans (dirsOf d m)) → m * dirWidth ≤ length d
     → s′ ≡ dirSpans (dirsOf d m)
 parts d m s s′ n e h = e ∙ sets-whole (dirSpans (dirsOf d m)) s (dirs-many d m h ∙ sym n)
 

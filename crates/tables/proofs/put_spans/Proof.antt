@@ -6,9 +6,9 @@ use Prim.Native.Nat.{ℕ, _≤_, _-_, _+_, _*_, _/_, _%_}
 use lib.ListN.{length, drop, getD}
 use Rattle.lists.specs.Blocks.{cat}
 use Rattle.order.specs.Spans.{spelled}
-use Rattle.order.specs.Laws.{inside-get}
+use Rattle.order.specs.InOrder.{inside-get}
 use Rattle.writer.specs.Writer.{Shown, shown, pours, runOf}
-use Rattle.writer.specs.Laws.{after-pours, cat-turn, cat-end}
+use Rattle.writer.proofs.InParts.{after-pours, cat-turn, cat-end}
 use Rattle.tables.proofs.Turns.{length-run, part-spelled, spelled-short, part-short}
 use native.Mathlib.Omega.{arith}
 use Rattle.tables.proofs.put_spans.Statement.{statement}

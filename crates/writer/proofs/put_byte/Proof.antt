@@ -1,3 +1,4 @@
+-- One byte, where there is room for one.
 use Prim.Native.Nat.{ℕ, _+_}
 use mathlib.Core.List.{List}
 use mathlib.Core.Path.{_≡_, refl, sym, ap}
@@ -10,28 +11,22 @@ use Rattle.writer.proofs.put_byte.Tie as tie
 use Rattle.writer.proofs.put_byte.Reads as reads
 use Rattle.writer.proofs.put_byte.Lts as lts
 
--- src/lib.rt:16:9
 slice-write-out : tie.Need-slice-write-out
 slice-write-out c = search needs
 
--- src/lib.rt:17:16
 add-result : tie.Need-add-result
 add-result c = search needs
 
--- src/lib.rt:17:9
 same-length : tie.Need-same-length
 same-length c = search needs
 
--- src/lib.rt:17:9
 returns : tie.Need-returns
 unfolding pours
 returns c = refl
 
--- src/lib.rt:19:5
 add-result-2 : tie.Need-add-result-2
 add-result-2 c = search needs
 
--- src/lib.rt:11:1
 returns-2 : tie.Need-returns-2
 unfolding pours
 returns-2 c = ap (λ (o : List ℕ). shown o (c .before .args .at + 1)) (sym (set-out (c .before .args .out .now) (c .before .args .at) (c .before .args .x) (c .if1 .left)))

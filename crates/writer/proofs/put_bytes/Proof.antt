@@ -1,3 +1,4 @@
+-- A turn of the loop is `pours-byte`: the bytes still to be put out make the whole run.
 use borrow.Author.Needs.{needs}
 use Prim.Native.Nat.{ℕ, suc, _+_, _-_, _≤_}
 use mathlib.Core.Path.{_≡_, refl, sym, ap, _∙_}
@@ -6,7 +7,7 @@ use lib.ListN.{length, getD, drop, drop-of-length-le}
 use lib.Seq.{drop-cons}
 use native.Mathlib.Numerals.{add-one}
 use Rattle.writer.specs.Writer.{shown, pours}
-use Rattle.writer.specs.Laws.{pours-none, pours-byte, after-pours}
+use Rattle.writer.proofs.InParts.{pours-none, pours-byte, after-pours}
 use native.Mathlib.Omega.{arith}
 use Rattle.writer.proofs.put_bytes.Statement.{statement}
 use Rattle.writer.proofs.put_bytes.Tie as tie
@@ -20,40 +21,38 @@ Inv-loop out₀ at src a₀ i₀ out a i = (i ≤ length src) × (a ≡ at + i) 
 abbrev μ-loop : tie.MeasureT-loop
 μ-loop out₀ at src a₀ i₀ out a i = length src - i
 
--- src/lib.rt:45:5
 loop-holds : tie.Need-loop-holds Inv-loop μ-loop
 loop-holds c = (omega arith, omega arith, refl, refl)
 
--- src/lib.rt:46:30
 shared-slice-read-put-byte : tie.Need-shared-slice-read-put-byte Inv-loop μ-loop
 shared-slice-read-put-byte c = search needs
 
--- src/lib.rt:46:9
 put-byte-requires : tie.Need-put-byte-requires Inv-loop μ-loop
 put-byte-requires c κs = omega arith
 
--- src/lib.rt:47:9
 add-i : tie.Need-add-i Inv-loop μ-loop
 add-i c = omega arith
 
--- src/lib.rt:45:5
 loop-less : tie.Need-loop-less Inv-loop μ-loop
 loop-less c = omega arith
 
--- src/lib.rt:45:5
 loop-again : tie.Need-loop-again Inv-loop μ-loop
 loop-again c =
-    let a = c .before .before .before .before .before .before .loop in
-    let s : List ℕ = c .before .before .before .before .before .before .before .before .before .args .src .now in
+    let at-loop = c .before .before .before .before .before .before in
+    let a = at-loop .loop in
+    let s : List ℕ = at-loop .before .before .before .args .src .now in
     let k : drop (a .i) s ≡ getD s (a .i) 0 ∷ drop (a .i + 1) s = rw add-one (drop-cons s (a .i) 0 (omega arith)) in
-    let n = after-pours _ _ (c .before .before .put-byte .ensures) in
-    (omega arith, omega (arith, n), c .before .before .put-byte .kept .0 ∙ a .inv .2, pours-byte (getD s (a .i) 0) (drop (a .i + 1) s) (shown (a .out) (a .a)) (c .before .before .put-byte .ensures) ∙ ap (λ (l : List ℕ). pours l (shown (a .out) (a .a))) (sym k) ∙ a .inv .3)
+    let n = after-pours _ _ (c .before .before .put-byte .ensures) in (
+      omega arith,
+      omega (arith, n),
+      c .before .before .put-byte .kept .0 ∙ a .inv .2,
+      pours-byte (getD s (a .i) 0) (drop (a .i + 1) s) (shown (a .out) (a .a)) (c .before .before .put-byte .ensures) ∙ ap
+          (λ (l : List ℕ). pours l (shown (a .out) (a .a))) (sym k) ∙ a .inv .3,
+    )
 
--- src/lib.rt:39:1
 same-length : tie.Need-same-length Inv-loop μ-loop
 same-length c = c .before .loop .inv .2
 
--- src/lib.rt:39:1
 returns : tie.Need-returns Inv-loop μ-loop
 returns c =
     let a = c .before .loop in

@@ -1,3 +1,4 @@
+-- A turn of the loop is `pours-byte`: the digits still to be put out make the whole number.
 use borrow.Author.Needs.{needs}
 use Prim.Native.Nat.{ℕ, suc, _+_, _-_, _≤_, _%_, _/_}
 use mathlib.Core.Path.{_≡_, refl, sym, ap, _∙_}
@@ -6,7 +7,7 @@ use native.Mathlib.Nat.{sub-zero}
 use lib.ListN.{length}
 use Rattle.le.specs.Le.{le}
 use Rattle.writer.specs.Writer.{shown, pours}
-use Rattle.writer.specs.Laws.{pours-none, pours-byte, after-pours}
+use Rattle.writer.proofs.InParts.{pours-none, pours-byte, after-pours}
 use native.Mathlib.Omega.{arith}
 use Rattle.writer.proofs.put_le.Statement.{statement}
 use Rattle.writer.proofs.put_le.Tie as tie
@@ -20,39 +21,37 @@ Inv-loop out₀ at w x v₀ a₀ i₀ out v a i = (i ≤ w) × (a ≡ at + i) ×
 abbrev μ-loop : tie.MeasureT-loop
 μ-loop out₀ at w x v₀ a₀ i₀ out v a i = w - i
 
--- src/lib.rt:30:5
 loop-holds : tie.Need-loop-holds Inv-loop μ-loop
 loop-holds c = (omega arith, omega arith, refl, rw sub-zero)
 
--- src/lib.rt:31:30
 cast-put-byte : tie.Need-cast-put-byte Inv-loop μ-loop
 cast-put-byte c = search needs
 
--- src/lib.rt:31:9
 put-byte-requires : tie.Need-put-byte-requires Inv-loop μ-loop
 put-byte-requires c κs = omega arith
 
--- src/lib.rt:33:9
 add-i : tie.Need-add-i Inv-loop μ-loop
 add-i c = omega arith
 
--- src/lib.rt:30:5
 loop-less : tie.Need-loop-less Inv-loop μ-loop
 loop-less c = omega arith
 
--- src/lib.rt:30:5
 loop-again : tie.Need-loop-again Inv-loop μ-loop
 loop-again c =
+    let at-start = c .before .before .before .before .before .before .before in
     let a = c .before .before .before .before .before .loop in
-    let k : c .before .before .before .before .before .before .before .args .w - a .i ≡ suc (c .before .before .before .before .before .before .before .args .w - (a .i + 1)) = omega arith in
-    let n = after-pours _ _ (c .before .before .put-byte .ensures) in
-    (omega arith, omega (arith, n), c .before .before .put-byte .kept .0 ∙ a .inv .2, pours-byte (a .v % 256) (le (c .before .before .before .before .before .before .before .args .w - (a .i + 1)) (a .v / 256)) (shown (a .out) (a .a)) (c .before .before .put-byte .ensures) ∙ ap (λ (j : ℕ). pours (le j (a .v)) (shown (a .out) (a .a))) (sym k) ∙ a .inv .3)
+    let k : at-start .args .w - a .i ≡ suc (at-start .args .w - (a .i + 1)) = omega arith in
+    let n = after-pours _ _ (c .before .before .put-byte .ensures) in (
+      omega arith,
+      omega (arith, n),
+      c .before .before .put-byte .kept .0 ∙ a .inv .2,
+      pours-byte (a .v % 256) (le (at-start .args .w - (a .i + 1)) (a .v / 256)) (shown (a .out) (a .a))
+          (c .before .before .put-byte .ensures) ∙ ap (λ (j : ℕ). pours (le j (a .v)) (shown (a .out) (a .a))) (sym k) ∙ a .inv .3,
+    )
 
--- src/lib.rt:23:1
 same-length : tie.Need-same-length Inv-loop μ-loop
 same-length c = c .before .loop .inv .2
 
--- src/lib.rt:23:1
 returns : tie.Need-returns Inv-loop μ-loop
 returns c =
     let a = c .before .loop in

@@ -1,9 +1,10 @@
+-- A length, then as many bytes, put out as a whole (`pours-then`).
 use mathlib.Core.Path.{ap}
 use lib.ListN.{length}
 use Rattle.le.specs.Le.{le}
-use Rattle.le.specs.Fields.{length-le}
+use Rattle.le.proofs.Fields.{length-le}
 use Rattle.writer.specs.Writer.{Shown, pours, runOf}
-use Rattle.writer.specs.Laws.{after-pours, pours-then}
+use Rattle.writer.proofs.InParts.{after-pours, pours-then}
 use native.Mathlib.Omega.{arith}
 use borrow.Author.Needs.{needs}
 use Rattle.writer.proofs.put_run.Statement.{statement}
@@ -13,22 +14,22 @@ use Rattle.writer.proofs.put_run.Lts as lts
 use Rattle.writer.proofs.put_bytes.Reads as put-bytes-reads
 use Rattle.writer.proofs.put_le.Reads as put-le-reads
 
--- src/lib.rt:57:9
 put-le-requires : tie.Need-put-le-requires
 put-le-requires c κs = search needs
 
--- src/lib.rt:58:5
 put-bytes-requires : tie.Need-put-bytes-requires
 put-bytes-requires c κs = omega (arith, after-pours _ _ (c .before .before .before .put-le .ensures), length-le 2 (length (c .before .before .before .before .before .before .before .args .src .now)))
 
--- src/lib.rt:53:1
 same-length : tie.Need-same-length
 same-length c = search needs
 
--- src/lib.rt:53:1
 returns : tie.Need-returns
 unfolding runOf
-returns c = pours-then (le 2 (length (c .before .before .before .before .before .before .before .before .before .before .args .src .now))) (c .before .before .before .before .before .before .before .before .before .before .args .src .now) _ (c .before .before .before .before .before .before .put-le .ensures) (c .before .before .put-bytes .ensures)
+returns c =
+    let at-put-le = c .before .before .before .before .before .before in
+    let at-start = at-put-le .before .before .before .before in
+    pours-then (le 2 (length (at-start .args .src .now))) (at-start .args .src .now) _ (at-put-le .put-le .ensures)
+    (c .before .before .put-bytes .ensures)
 
 pub put-run-spec : {M : Type 1} → statement M
 put-run-spec = tie.close (tie.spec put-le-requires put-bytes-requires same-length returns)

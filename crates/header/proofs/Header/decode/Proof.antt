@@ -8,7 +8,7 @@ use lib.Seq.{length-take-le}
 use Rattle.le.specs.Le.{field}
 use Rattle.text.specs.Text.{isText}
 use Rattle.header.specs.Block.{blockLen, magic, maxPath, pathOf, checkOf}
-use Rattle.header.specs.Laws.{short-absent, found}
+use Rattle.header.proofs.BlockLaws.{short-absent, found}
 use Rattle.header.proofs.Decode.{other-magic, long-path, other-check, no-text, path-part, check-is, fields-are}
 use Rattle.header.proofs.Header.decode.Statement.{statement}
 use Rattle.header.proofs.Header.decode.Tie as tie
@@ -22,7 +22,9 @@ abbrev at-magic : tie.After-get-at2 → tie.After-get-at
 at-magic c = c .before .before .before
 
 abbrev at-length : tie.After-get-at3 → tie.After-get-at2
-at-length c = c .before .before .before .before .before .before .before .before
+at-length c =
+    let after-start-2 = c .before .before .before .before .before .before .before in
+    after-start-2 .before
 
 abbrev at-check : tie.After-is-text → tie.After-get-at3
 at-check c = c .before .before .before .before

@@ -5,7 +5,7 @@ use mathlib.Core.Path.{_≡_, sym}
 use native.Mathlib.Omega.{arith}
 use lib.ListN.{length}
 use lib.Seq.{length-take-le}
-use Rattle.le.specs.Parts.{copy-back}
+use Rattle.le.proofs.Parts.{copy-back}
 use Rattle.header.proofs.Encode.{steps}
 use Rattle.header.proofs.Header.encode.Statement.{statement}
 use Rattle.header.proofs.Header.encode.Tie as tie
