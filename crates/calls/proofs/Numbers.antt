@@ -3,18 +3,18 @@ use Prim.Native.Nat.{ℕ}
 use native.Mathlib.Omega.{arith}
 use mathlib.Core.List.{List}
 use Rattle.device.specs.declared.Geometry.{Geometry}
-use Rattle.table.specs.Numbers.{isNumber}
-use Rattle.table.specs.State.{view}
-use Rattle.steps.specs.World.{Lent, viewW}
+use Rattle.pool_state.specs.Numbers.{isNumber}
+use Rattle.pool_state.specs.State.{view}
+use Rattle.pool_steps.specs.World.{Lent, viewW}
 use Rattle.mount.specs.Mount.{mounted}
 use Rattle.mount.proofs.Numbers.{adopt-number, mount-number}
-use Rattle.steps.specs.Outcome.{flatO}
-use Rattle.handles.proofs.Numbers.{file-len-number, read-at-number, set-len-number, sync-number, write-at-number}
-use Rattle.files.proofs.Numbers.{open-read-number, open-write-number, remove-number}
-use Rattle.renames.proofs.Numbers.{rename-number}
-use Rattle.folders.specs.Folders.{flatB}
-use Rattle.folders.proofs.Stays.{create-dir-all-number, metadata-number, sync-dir-number}
-use Rattle.listing.specs.Theorems.{read-dir-number}
+use Rattle.pool_steps.specs.Outcome.{flatO}
+use Rattle.inner_handle.proofs.Numbers.{file-len-number, read-at-number, set-len-number, sync-number, write-at-number}
+use Rattle.inner_open.proofs.Numbers.{open-read-number, open-write-number, remove-number}
+use Rattle.inner_rename.proofs.Numbers.{rename-number}
+use Rattle.inner_dirs.specs.Folders.{flatB}
+use Rattle.inner_dirs.proofs.Stays.{create-dir-all-number, metadata-number, sync-dir-number}
+use Rattle.inner_list.specs.Theorems.{read-dir-number}
 use Rattle.calls_gate.specs.declared.Call.{Call}
 use Rattle.calls_gate.specs.declared.Call.the-variants.{Adopt, CreateDirAll, Exists, FileLen, Metadata, Mount, OpenRead, OpenWrite}
 use Rattle.calls_gate.specs.declared.Call.the-variants.{ReadAt, ReadDir, RemoveFile, Rename, SetLen, Sync, SyncDir, WriteAt}

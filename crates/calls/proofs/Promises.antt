@@ -11,25 +11,25 @@ use Rattle.limits.specs.Limits.{rowWidth}
 use Rattle.device.specs.declared.Geometry.{Geometry}
 use Rattle.device.specs.Device.{shapeB}
 use Rattle.device.proofs.Shapes.{both}
-use Rattle.rows.specs.Rows.{at, lenOf}
-use Rattle.dirs.specs.Dirs.{registeredWith}
-use Rattle.table.specs.State.{State, Bufs, view, flat}
-use Rattle.table.specs.Changes.{withDirs}
-use Rattle.table.specs.Reads.{pool-reads}
-use Rattle.admit.specs.Test.{isPool}
-use Rattle.admit.proofs.Exactly.{is-pool-of}
-use Rattle.steps.specs.World.{World, world, Lent, lent, viewW, flatW, Fit, Ready}
-use Rattle.steps.proofs.Stays.{ready-fit, world-is}
-use Rattle.steps.proofs.Numbers.{either}
+use Rattle.slot_rows.specs.Rows.{at, lenOf}
+use Rattle.dir_rows.specs.Dirs.{registeredWith}
+use Rattle.pool_state.specs.State.{State, Bufs, view, flat}
+use Rattle.pool_state.specs.Changes.{withDirs}
+use Rattle.pool_state.specs.Reads.{pool-reads}
+use Rattle.pool_test.specs.Test.{isPool}
+use Rattle.pool_test.proofs.Exactly.{is-pool-of}
+use Rattle.pool_steps.specs.World.{World, world, Lent, lent, viewW, flatW, Fit, Ready}
+use Rattle.pool_steps.proofs.Stays.{ready-fit, world-is}
+use Rattle.pool_steps.proofs.Numbers.{either}
 use Rattle.mount.specs.Mount.{adoptM, mountM, mounted}
 use Rattle.mount.proofs.Stays.{adopt-valid, mount-valid}
-use Rattle.steps.specs.Outcome.{Outcome, outcome, None, flatO}
-use Rattle.handles.specs.Handles.{Filling, isLive, readPart, readAtM}
-use Rattle.handles.proofs.Stays.{read-at-fit, write-at-fit, set-len-fit, sync-fit}
-use Rattle.files.proofs.Stays.{open-write-fit, remove-fit}
-use Rattle.renames.proofs.Stays.{rename-fit}
-use Rattle.folders.specs.Folders.{flatB, tooLong, createDirAllM}
-use Rattle.folders.proofs.Stays.{create-dir-all-valid, sync-dir-fit}
+use Rattle.pool_steps.specs.Outcome.{Outcome, outcome, None, flatO}
+use Rattle.inner_handle.specs.Handles.{Filling, isLive, readPart, readAtM}
+use Rattle.inner_handle.proofs.Stays.{read-at-fit, write-at-fit, set-len-fit, sync-fit}
+use Rattle.inner_open.proofs.Stays.{open-write-fit, remove-fit}
+use Rattle.inner_rename.proofs.Stays.{rename-fit}
+use Rattle.inner_dirs.specs.Folders.{flatB, tooLong, createDirAllM}
+use Rattle.inner_dirs.proofs.Stays.{create-dir-all-valid, sync-dir-fit}
 use Rattle.calls_gate.specs.declared.Answer.{Answer}
 use Rattle.calls_gate.specs.declared.Call.{Call}
 use Rattle.calls_gate.specs.declared.Call.the-variants.{Mount, Adopt, OpenWrite, OpenRead, ReadAt, WriteAt, SetLen, FileLen}

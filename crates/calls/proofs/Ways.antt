@@ -7,8 +7,8 @@ use mathlib.Core.List.{List}
 use lib.Dec.{eqb}
 use borrow.Author.Tests.{eq-eqb, ne-eqb}
 use Rattle.device.specs.declared.Geometry.{Geometry}
-use Rattle.table.specs.State.{Bufs, bufs}
-use Rattle.steps.specs.World.{Lent, lent}
+use Rattle.pool_state.specs.State.{Bufs, bufs}
+use Rattle.pool_steps.specs.World.{Lent, lent}
 use Rattle.calls_gate.specs.declared.Answer.{Answer}
 use Rattle.calls_gate.specs.declared.Call.{Call}
 use Rattle.calls_gate.specs.declared.Reply.{Reply}

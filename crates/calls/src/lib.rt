@@ -8,12 +8,12 @@ use device::Geometry;
 use device::Place;
 use limits::DIR_WIDTH;
 use limits::ROW_WIDTH;
-use table::Chosen;
-use table::Pool;
+use pool_state::Chosen;
+use pool_state::Pool;
 ghost use mathlib.Core.Path.{_≡_};
 ghost use Rattle.device.specs.Device.{dev};
-ghost use Rattle.table.specs.State.{bufs};
-ghost use Rattle.steps.specs.World.{lent, before, after};
+ghost use Rattle.pool_state.specs.State.{bufs};
+ghost use Rattle.pool_steps.specs.World.{lent, before, after};
 ghost use Rattle.calls_gate.specs.Table.{refusalOf};
 ghost use Rattle.calls_gate.specs.Replies.{came, replies};
 ghost use Rattle.calls_gate.specs.Calls.{innerM, callP};
@@ -85,7 +85,7 @@ fn inner(
             generation,
             at,
         } => {
-            let d = handles::read_at(
+            let d = inner_handle::read_at(
                 bytes,
                 phys,
                 geometry,
@@ -119,7 +119,7 @@ fn inner(
             generation,
             at,
         } => {
-            let d = handles::write_at(
+            let d = inner_handle::write_at(
                 bytes,
                 phys,
                 geometry,
@@ -142,7 +142,7 @@ fn inner(
             generation,
             len,
         } => {
-            let d = handles::set_len(
+            let d = inner_handle::set_len(
                 bytes,
                 phys,
                 geometry,
@@ -160,7 +160,7 @@ fn inner(
             return calls_path::quiet(d.out, after, pool);
         }
         Call::FileLen { slot, generation } => {
-            let d = handles::file_len(nums, names, dirs, pool, slot, generation);
+            let d = inner_handle::file_len(nums, names, dirs, pool, slot, generation);
             return Went {
                 out: d.out,
                 told: Told {
@@ -175,7 +175,7 @@ fn inner(
             };
         }
         Call::Sync { slot, generation } => {
-            let d = handles::sync(
+            let d = inner_handle::sync(
                 bytes,
                 phys,
                 geometry,

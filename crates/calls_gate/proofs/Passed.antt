@@ -12,9 +12,9 @@ use Rattle.text.specs.Text.{isText}
 use Rattle.device.specs.declared.Geometry.{Geometry}
 use Rattle.device.specs.Device.{Shape, shapeB}
 use Rattle.device.proofs.Shapes.{both, shape-means}
-use Rattle.admit.specs.Test.{isPool}
-use Rattle.admit.proofs.Exactly.{pool-exactly}
-use Rattle.steps.specs.World.{Lent, Ready}
+use Rattle.pool_test.specs.Test.{isPool}
+use Rattle.pool_test.proofs.Exactly.{pool-exactly}
+use Rattle.pool_steps.specs.World.{Lent, Ready}
 use Rattle.calls_gate.specs.declared.Call.{Call}
 use Rattle.calls_gate.specs.Table.{takesOf, slotRows, dirRows, rowsB, holdsPool, mountable, textIf, refusalOf}
 

@@ -12,12 +12,12 @@ use Rattle.text.specs.Text.{isText}
 use Rattle.device.specs.declared.Geometry.{Geometry}
 use Rattle.device.specs.declared.Place.{Place}
 use Rattle.device.specs.Device.{shapeB}
-use Rattle.table.specs.declared.Pool.{Pool}
-use Rattle.table.specs.Numbers.{isNumber}
-use Rattle.table.specs.State.{Bufs, bufs}
-use Rattle.admit.specs.Test.{isPool}
-use Rattle.steps.specs.World.{Lent}
-use Rattle.steps.proofs.Numbers.{either}
+use Rattle.pool_state.specs.declared.Pool.{Pool}
+use Rattle.pool_state.specs.Numbers.{isNumber}
+use Rattle.pool_state.specs.State.{Bufs, bufs}
+use Rattle.pool_test.specs.Test.{isPool}
+use Rattle.pool_steps.specs.World.{Lent}
+use Rattle.pool_steps.proofs.Numbers.{either}
 use Rattle.mount.specs.Mount.{zeroPool}
 use Rattle.calls_gate.specs.declared.Answer.{Answer}
 use Rattle.calls_gate.specs.declared.Answer.the-variants.{TooSmall}

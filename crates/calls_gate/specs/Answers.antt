@@ -6,7 +6,7 @@ use mathlib.Core.Bool.{cond}
 use lib.Dec.{eqb}
 use borrow.Author.Tests.{eqb-true}
 use Rattle.lists.specs.Runs.{allOf, all-at}
-use Rattle.table.specs.Numbers.{isNumber}
+use Rattle.pool_state.specs.Numbers.{isNumber}
 use Rattle.calls_gate.specs.declared.Answer.{Answer}
 use Rattle.calls_gate.specs.declared.Answer.the-variants.{Done, NotPool, WrongShape, NotText, TooLong, NotFound, Stale}
 use Rattle.calls_gate.specs.declared.Answer.the-variants.{NoSlot, NoDirRow, NoGeneration, Failed, Short, TooMany, TooSmall}

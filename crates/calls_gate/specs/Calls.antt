@@ -5,18 +5,18 @@ use mathlib.Core.Bool.{Bool, false, cond}
 use mathlib.Core.List.{List}
 use lib.Dec.{eqb}
 use Rattle.device.specs.declared.Geometry.{Geometry}
-use Rattle.table.specs.State.{Bufs, view}
-use Rattle.steps.specs.World.{Lent, lent, viewW}
+use Rattle.pool_state.specs.State.{Bufs, view}
+use Rattle.pool_steps.specs.World.{Lent, lent, viewW}
 use Rattle.mount.specs.Mount.{adoptM, mountM, mounted}
-use Rattle.handles.specs.declared.Len.{Len}
-use Rattle.steps.specs.Outcome.{Outcome, None, flatO}
-use Rattle.handles.specs.Handles.{Filling, fileLenM, readAtM, writeAtM, setLenM, syncM}
-use Rattle.files.specs.declared.Reader.{Reader}
-use Rattle.files.specs.Files.{Handle, openReadM, openWriteM, removeM}
-use Rattle.renames.specs.Rename.{renameM}
-use Rattle.folders.specs.declared.Meta.{Meta}
-use Rattle.folders.specs.Folders.{flatB, createDirAllM, existsM, metadataM, syncDirM}
-use Rattle.listing.specs.Listing.{Listing, readDirM}
+use Rattle.inner_handle.specs.declared.Len.{Len}
+use Rattle.pool_steps.specs.Outcome.{Outcome, None, flatO}
+use Rattle.inner_handle.specs.Handles.{Filling, fileLenM, readAtM, writeAtM, setLenM, syncM}
+use Rattle.inner_open.specs.declared.Reader.{Reader}
+use Rattle.inner_open.specs.Files.{Handle, openReadM, openWriteM, removeM}
+use Rattle.inner_rename.specs.Rename.{renameM}
+use Rattle.inner_dirs.specs.declared.Meta.{Meta}
+use Rattle.inner_dirs.specs.Folders.{flatB, createDirAllM, existsM, metadataM, syncDirM}
+use Rattle.inner_list.specs.Listing.{Listing, readDirM}
 use Rattle.calls_gate.specs.declared.Call.{Call}
 use Rattle.calls_gate.specs.declared.Call.the-variants.{Mount, Adopt, OpenWrite, OpenRead, ReadAt, WriteAt, SetLen, FileLen}
 use Rattle.calls_gate.specs.declared.Call.the-variants.{Sync, SyncDir, Rename, RemoveFile, CreateDirAll, ReadDir, Exists, Metadata}

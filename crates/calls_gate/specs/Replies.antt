@@ -5,9 +5,9 @@ use mathlib.Core.List.{List}
 use denote.Ref.{now}
 use Rattle.device.specs.declared.Place.{Place}
 use Rattle.device.specs.Device.{dev}
-use Rattle.table.specs.declared.Pool.{Pool}
-use Rattle.table.specs.State.{bufs}
-use Rattle.steps.specs.World.{Lent, lent, Run, after}
+use Rattle.pool_state.specs.declared.Pool.{Pool}
+use Rattle.pool_state.specs.State.{bufs}
+use Rattle.pool_steps.specs.World.{Lent, lent, Run, after}
 use Rattle.calls_gate.specs.declared.Answer.{Answer}
 use Rattle.calls_gate.specs.declared.Reply.{Reply}
 use Rattle.calls_gate.specs.declared.Told.{Told}

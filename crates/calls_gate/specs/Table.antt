@@ -8,10 +8,10 @@ use Rattle.limits.specs.Limits.{maxPath, rowWidth, dirWidth}
 use Rattle.text.specs.Text.{isText}
 use Rattle.device.specs.declared.Geometry.{Geometry}
 use Rattle.device.specs.Device.{shapeB}
-use Rattle.table.specs.declared.Chosen.{Chosen}
-use Rattle.table.specs.State.{Bufs, bufs}
-use Rattle.admit.specs.Test.{isPool}
-use Rattle.steps.specs.World.{Lent, lent}
+use Rattle.pool_state.specs.declared.Chosen.{Chosen}
+use Rattle.pool_state.specs.State.{Bufs, bufs}
+use Rattle.pool_test.specs.Test.{isPool}
+use Rattle.pool_steps.specs.World.{Lent, lent}
 use Rattle.mount.specs.Mount.{zeroPool}
 use Rattle.calls_gate.specs.declared.Call.{Call}
 use Rattle.calls_gate.specs.declared.Call.the-variants.{Mount, Adopt, OpenWrite, OpenRead, ReadAt, WriteAt, SetLen, FileLen}

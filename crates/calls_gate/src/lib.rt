@@ -6,10 +6,10 @@ use device::Place;
 use limits::DIR_WIDTH;
 use limits::MAX_PATH;
 use limits::ROW_WIDTH;
-use table::Pool;
+use pool_state::Pool;
 ghost use mathlib.Core.Path.{_≡_};
-ghost use Rattle.table.specs.State.{bufs};
-ghost use Rattle.steps.specs.World.{before};
+ghost use Rattle.pool_state.specs.State.{bufs};
+ghost use Rattle.pool_steps.specs.World.{before};
 ghost use Rattle.calls_gate.specs.Answers.{numberOf, answerOf};
 ghost use Rattle.calls_gate.specs.Table.{takes, takesOf, rowsB, textIf, refusalOf, refusedB};
 ghost use Rattle.calls_gate.specs.Replies.{silently};
@@ -259,7 +259,7 @@ pub fn refusal(
         }
         return 0;
     }
-    if !admit::pool_ok(nums, names, dirs, pool) {
+    if !pool_test::pool_ok(nums, names, dirs, pool) {
         return 1;
     }
     if !device::shape_ok(bytes, phys, geometry) {
@@ -313,9 +313,9 @@ pub fn refuse(
     let answer = answer_of(no);
     let takes = takes_of(call);
     if takes.mounts {
-        rows::clear_rows(nums, names);
+        slot_rows::clear_rows(nums, names);
         let d = dirs.len();
-        rows::zero_in(dirs, 0, d);
+        slot_rows::zero_in(dirs, 0, d);
         let zero = mount::zero();
         return silent(answer, place, zero);
     }

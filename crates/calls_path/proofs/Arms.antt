@@ -9,10 +9,10 @@ use denote.Enum.Declared.{tagOf}
 use Rattle.device.specs.declared.Geometry.{Geometry}
 use Rattle.device.specs.declared.Place.{Place}
 use Rattle.device.specs.Device.{dev}
-use Rattle.table.specs.declared.Pool.{Pool}
-use Rattle.table.specs.State.{Bufs, bufs}
-use Rattle.steps.specs.World.{Lent, lent}
-use Rattle.steps.specs.Outcome.{Outcome, outcome, None}
+use Rattle.pool_state.specs.declared.Pool.{Pool}
+use Rattle.pool_state.specs.State.{Bufs, bufs}
+use Rattle.pool_steps.specs.World.{Lent, lent}
+use Rattle.pool_steps.specs.Outcome.{Outcome, outcome, None}
 use Rattle.calls_gate.specs.declared.Call.{Call}
 use Rattle.calls_gate.specs.declared.Call.the-variants.{Mount, Adopt, OpenWrite, OpenRead, ReadAt, WriteAt, SetLen, FileLen}
 use Rattle.calls_gate.specs.declared.Call.the-variants.{Sync, SyncDir, Rename, RemoveFile, CreateDirAll, ReadDir, Exists, Metadata}

@@ -1,7 +1,7 @@
 -- The result of an inner call that tells nothing.
 use Prim.Native.Nat.{ℕ}
 use Rattle.device.specs.declared.Place.{Place}
-use Rattle.table.specs.declared.Pool.{Pool}
+use Rattle.pool_state.specs.declared.Pool.{Pool}
 use Rattle.calls_gate.specs.Replies.{nothing}
 use Rattle.calls_path.specs.declared.Went.{Went}
 

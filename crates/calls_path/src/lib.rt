@@ -4,12 +4,12 @@ use calls_gate::Call;
 use calls_gate::Told;
 use device::Geometry;
 use device::Place;
-use table::Pool;
+use pool_state::Pool;
 ghost use mathlib.Core.Path.{_≡_};
 ghost use mathlib.Core.Bool.{true};
 ghost use Rattle.device.specs.Device.{dev};
-ghost use Rattle.table.specs.State.{bufs};
-ghost use Rattle.steps.specs.World.{lent, before, after};
+ghost use Rattle.pool_state.specs.State.{bufs};
+ghost use Rattle.pool_steps.specs.World.{lent, before, after};
 ghost use Rattle.calls_gate.specs.Table.{takesOf, refusalOf};
 ghost use Rattle.calls_gate.specs.Replies.{came};
 ghost use Rattle.calls_gate.specs.Calls.{innerM};
@@ -67,7 +67,7 @@ pub fn on_path(
 {
     match call {
         Call::OpenWrite { keep } => {
-            let d = files::open_write(
+            let d = inner_open::open_write(
                 bytes,
                 phys,
                 geometry,
@@ -96,7 +96,7 @@ pub fn on_path(
             };
         }
         Call::OpenRead => {
-            let d = files::open_read(nums, names, dirs, pool, first);
+            let d = inner_open::open_read(nums, names, dirs, pool, first);
             return Went {
                 out: d.out,
                 told: Told {
@@ -111,7 +111,7 @@ pub fn on_path(
             };
         }
         Call::SyncDir => {
-            let d = folders::sync_dir(
+            let d = inner_dirs::sync_dir(
                 bytes,
                 phys,
                 geometry,
@@ -127,7 +127,7 @@ pub fn on_path(
             return quiet(d.out, after, pool);
         }
         Call::Rename => {
-            let d = renames::rename(
+            let d = inner_rename::rename(
                 bytes,
                 phys,
                 geometry,
@@ -145,7 +145,7 @@ pub fn on_path(
             return quiet(d.out, after, left);
         }
         Call::RemoveFile => {
-            let d = files::remove_file(
+            let d = inner_open::remove_file(
                 bytes,
                 phys,
                 geometry,
@@ -162,12 +162,12 @@ pub fn on_path(
             return quiet(d.out, after, left);
         }
         Call::CreateDirAll => {
-            let d = folders::create_dir_all(nums, names, dirs, pool, first);
+            let d = inner_dirs::create_dir_all(nums, names, dirs, pool, first);
             let left = d.pool;
             return quiet(d.out, place, left);
         }
         Call::ReadDir => {
-            let d = listing::read_dir(nums, names, dirs, pool, first, buf);
+            let d = inner_list::read_dir(nums, names, dirs, pool, first, buf);
             return Went {
                 out: d.out,
                 told: Told {
@@ -182,7 +182,7 @@ pub fn on_path(
             };
         }
         Call::Exists => {
-            let d = folders::exists(nums, names, dirs, pool, first);
+            let d = inner_dirs::exists(nums, names, dirs, pool, first);
             return Went {
                 out: 0,
                 told: Told {
@@ -197,7 +197,7 @@ pub fn on_path(
             };
         }
         Call::Metadata => {
-            let d = folders::metadata(nums, names, dirs, pool, first);
+            let d = inner_dirs::metadata(nums, names, dirs, pool, first);
             return Went {
                 out: d.out,
                 told: Told {

@@ -9,7 +9,7 @@ use device::Place;
 use header::Decoded;
 use header::Header;
 use libc::STDOUT_FILENO;
-use table::Pool;
+use pool_state::Pool;
 ghost use mathlib.Core.Path.{_≡_};
 ghost use Prim.Native.Nat.{_≤_};
 ghost use mathlib.Core.List.{[], _++_};
@@ -62,7 +62,7 @@ fn ask(
     path: &[u8],
 ) -> Reply {
     let mut none = [0u8; 1];
-    bridge::on_numbers(
+    pool_numbers::on_numbers(
         bytes,
         phys,
         Geometry { size: 1024 },

@@ -14,10 +14,10 @@ use Rattle.path.specs.Walk.{UpTo}
 use Rattle.header.specs.Block.{blockLen, maxPath, headerOf, encoded, decoded}
 use Rattle.header.proofs.BlockLaws.{short-absent}
 use Rattle.harness.specs.Calls.{outcome, refusal, encodeCall, saidOf, decodeCall, textCall, sameCall, spelled, normalCall, parentCall, countedPool, recordCall, hits, lookupsCall}
-use Rattle.table.specs.declared.Pool.{Pool}
-use Rattle.table.specs.State.{State, bufs, view}
-use Rattle.admit.specs.Test.{isPool}
-use Rattle.files.specs.Files.{openReadM}
+use Rattle.pool_state.specs.declared.Pool.{Pool}
+use Rattle.pool_state.specs.State.{State, bufs, view}
+use Rattle.pool_test.specs.Test.{isPool}
+use Rattle.inner_open.specs.Files.{openReadM}
 use lib.Dec.{eqb}
 
 -- what a test said of a flag, of what the flag stands for

@@ -11,10 +11,10 @@ use Rattle.header.specs.Block.{blockLen, maxPath, headerOf, flagsOf, encoded, d
 use Rattle.header.specs.declared.Header.{Header}
 use Rattle.header.specs.declared.Decoded.{Decoded}
 use Rattle.header.specs.declared.Decoded.the-variants.{Absent, Found}
-use Rattle.table.specs.declared.Pool.{Pool}
-use Rattle.table.specs.State.{State, bufs, view}
-use Rattle.admit.specs.Test.{isPool}
-use Rattle.files.specs.Files.{openReadM}
+use Rattle.pool_state.specs.declared.Pool.{Pool}
+use Rattle.pool_state.specs.State.{State, bufs, view}
+use Rattle.pool_test.specs.Test.{isPool}
+use Rattle.inner_open.specs.Files.{openReadM}
 
 -- What a call leaves: its answer, and the lent buffer.
 pub record Outcome : Type 0 where

@@ -14,7 +14,7 @@ use Rattle.path.specs.Path.{components, hasParent, normal, parentOf}
 use Rattle.header.specs.Block.{blockLen, maxPath, decoded}
 use Rattle.header.specs.declared.Decoded.{Decoded}
 use Rattle.header.specs.declared.Decoded.the-variants.{Absent, Found}
-use Rattle.writer.specs.Writer.{Shown, shown, poured}
+use Rattle.output.specs.Writer.{Shown, shown, poured}
 use Rattle.script.specs.Script.{scriptM}
 use Rattle.harness.specs.Calls.{Outcome, outcome, refusal, saidOf, encodeCall, decodeCall, textCall, sameCall, spelled, normalCall, parentCall, recordCall, lookupsCall}
 

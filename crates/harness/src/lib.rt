@@ -3,16 +3,16 @@
 // too small. Where an answer has a value, it is number * 2^32 + value.
 use header::Decoded;
 use header::Header;
-use table::Chosen;
-use table::Pool;
+use pool_state::Chosen;
+use pool_state::Pool;
 ghost use mathlib.Core.Path.{_≡_};
 ghost use Prim.Native.Nat.{_≤_};
 ghost use lib.ListN.{length};
 ghost use Rattle.fnv.specs.Fnv.{fnvFrom};
 ghost use Rattle.le.specs.Le.{laid};
 ghost use Rattle.path.specs.Path.{normal};
-ghost use Rattle.table.specs.State.{bufs, view, IsPool};
-ghost use Rattle.writer.specs.Writer.{shown, poured};
+ghost use Rattle.pool_state.specs.State.{bufs, view, IsPool};
+ghost use Rattle.output.specs.Writer.{shown, poured};
 ghost use Rattle.script.specs.Script.{scriptM};
 ghost use Rattle.harness.specs.Calls.{outcome, refusal, numbersOf, encodeCall, decodeCall, textCall, sameCall, spelled};
 ghost use Rattle.harness.specs.Calls.{normalCall, parentCall, countedPool, recordCall, hits, lookupsCall};
@@ -185,7 +185,7 @@ pub extern "C" fn record_check(
         r ≡ recordCall (now (nums .entry)) (now (names .entry)) (now (dirs .entry)) rows «dir_rows» held «dirs_held» counter ⌝ }
 {
     let pool = counted(rows, dir_rows, held, dirs_held, counter);
-    if admit::pool_ok(nums, names, dirs, pool) {
+    if pool_test::pool_ok(nums, names, dirs, pool) {
         return 1;
     }
     0
@@ -211,7 +211,7 @@ pub extern "C" fn record_lookups(
         (now (path .entry)) times ⌝ }
 {
     let pool = counted(rows, dir_rows, held, dirs_held, counter);
-    if admit::pool_ok(nums, names, dirs, pool) {
+    if pool_test::pool_ok(nums, names, dirs, pool) {
         return lookups(nums, names, dirs, pool, path, times);
     }
     0
@@ -226,7 +226,7 @@ fn lookups(nums: &[u64], names: &[u8], dirs: &[u8], pool: Pool, path: &[u8], tim
     let mut i = 0u64;
     let mut found = 0u64;
     while i < times {
-        let reader = files::open_read(nums, names, dirs, pool, path);
+        let reader = inner_open::open_read(nums, names, dirs, pool, path);
         let out = reader.out;
         i = i + 1;
         if out == 0 {

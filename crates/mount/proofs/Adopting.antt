@@ -14,24 +14,24 @@ use Rattle.lists.specs.Distinct.{In}
 use Rattle.device.specs.declared.Place.{Place}
 use Rattle.device.specs.declared.Geometry.{Geometry}
 use Rattle.device.specs.Device.{Dev, dev, Shape}
-use Rattle.rows.specs.Rows.{Row, rowsOf, flatNums, flatNames, Flat}
-use Rattle.rows.proofs.InBuffers.{length-rows}
-use Rattle.dirs.specs.Rows.{dirsOf, flatDirs, FlatDirs}
-use Rattle.dirs.proofs.InBuffer.{dirs-of}
-use Rattle.table.specs.declared.Pool.{Pool}
-use Rattle.table.specs.State.{State, Valid, Bufs, bufs, view, poolOf, flat, IsPool}
-use Rattle.table.specs.InBuffers.{pool-canon, pool-rows, pool-dirs, queue-fits, queue-few, together}
-use Rattle.steps.specs.World.{World, world, Lent, lent, viewW, flatW, Fit, Ready}
-use Rattle.steps.proofs.Stays.{world-is, ready-fit, lent-stays}
-use Rattle.steps.specs.Outcome.{only, flatO}
-use Rattle.survey.specs.Staged.{claimed, spares, vacated}
-use Rattle.survey.proofs.Surveyed.{scan-rows, scan-length, scan-free, scan-dirs, asked-room, asked-over, asked-same}
-use Rattle.install.specs.Install.{refusal, Three, three, Taken, unstaged, pushedAll, holding}
-use Rattle.install.proofs.StagedRows.{queuedAll, push-all}
-use Rattle.survey.specs.Heads.{Head, Reads, readsM}
-use Rattle.survey.specs.Survey.{Survey, survey, scan}
-use Rattle.survey.specs.Claims.{rowOf, askedOf, losersOf}
-use Rattle.survey.proofs.Losers.{scan-losers}
+use Rattle.slot_rows.specs.Rows.{Row, rowsOf, flatNums, flatNames, Flat}
+use Rattle.slot_rows.proofs.InBuffers.{length-rows}
+use Rattle.dir_rows.specs.Rows.{dirsOf, flatDirs, FlatDirs}
+use Rattle.dir_rows.proofs.InBuffer.{dirs-of}
+use Rattle.pool_state.specs.declared.Pool.{Pool}
+use Rattle.pool_state.specs.State.{State, Valid, Bufs, bufs, view, poolOf, flat, IsPool}
+use Rattle.pool_state.specs.InBuffers.{pool-canon, pool-rows, pool-dirs, queue-fits, queue-few, together}
+use Rattle.pool_steps.specs.World.{World, world, Lent, lent, viewW, flatW, Fit, Ready}
+use Rattle.pool_steps.proofs.Stays.{world-is, ready-fit, lent-stays}
+use Rattle.pool_steps.specs.Outcome.{only, flatO}
+use Rattle.mount_survey.specs.Staged.{claimed, spares, vacated}
+use Rattle.mount_survey.proofs.Surveyed.{scan-rows, scan-length, scan-free, scan-dirs, asked-room, asked-over, asked-same}
+use Rattle.mount_install.specs.Install.{refusal, Three, three, Taken, unstaged, pushedAll, holding}
+use Rattle.mount_install.proofs.StagedRows.{queuedAll, push-all}
+use Rattle.mount_survey.specs.Heads.{Head, Reads, readsM}
+use Rattle.mount_survey.specs.Survey.{Survey, survey, scan}
+use Rattle.mount_survey.specs.Claims.{rowOf, askedOf, losersOf}
+use Rattle.mount_survey.proofs.Losers.{scan-losers}
 use Rattle.mount.specs.Mount.{begin, installed, drain, Due, moved, settle, afterReads, tooMany, adoptM}
 use Rattle.mount.proofs.SurveyKeeps.{reads-fine, Keeps}
 use Rattle.mount.proofs.Stays.{room-for, scanned, installed-fit, losers-due}

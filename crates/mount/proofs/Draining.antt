@@ -9,11 +9,11 @@ use lib.Seq.{drop-cons, getD-take, length-take-le}
 use Rattle.limits.specs.Limits.{lastCounter}
 use Rattle.lists.specs.Distinct.{In}
 use Rattle.device.specs.declared.Geometry.{Geometry}
-use Rattle.rows.proofs.InBuffers.{length-rows}
-use Rattle.table.specs.State.{view, queueOf}
-use Rattle.steps.specs.World.{World, Lent, viewW, flatW, Ready}
-use Rattle.steps.specs.Steps.{releaseM}
-use Rattle.steps.proofs.Stays.{world-is, ready-fit, lent-stays}
+use Rattle.slot_rows.proofs.InBuffers.{length-rows}
+use Rattle.pool_state.specs.State.{view, queueOf}
+use Rattle.pool_steps.specs.World.{World, Lent, viewW, flatW, Ready}
+use Rattle.pool_steps.specs.Steps.{releaseM}
+use Rattle.pool_steps.proofs.Stays.{world-is, ready-fit, lent-stays}
 use Rattle.mount.specs.Mount.{drain, Due}
 use Rattle.mount.proofs.Stays.{due-first, due-fit, due-next}
 

@@ -12,16 +12,16 @@ use Rattle.limits.specs.Limits.{maxPath, rowWidth, dirWidth}
 use Rattle.lists.specs.Blocks.{pad}
 use Rattle.device.specs.declared.Geometry.{Geometry}
 use Rattle.device.specs.Device.{Dev, Shape}
-use Rattle.rows.specs.Rows.{rowsOf, flatNums, flatNames}
-use Rattle.rows.proofs.InBuffers.{flat-zero}
-use Rattle.dirs.specs.Rows.{flatDirs}
-use Rattle.dirs.proofs.InBuffer.{flat-none}
-use Rattle.table.specs.declared.Chosen.{Chosen}
-use Rattle.table.specs.declared.Pool.{Pool}
-use Rattle.table.specs.State.{State, Bufs, bufs, poolOf, flat}
-use Rattle.steps.specs.World.{World, world, Lent, lent, viewW, flatW, Ready}
-use Rattle.steps.proofs.Stays.{world-is}
-use Rattle.steps.specs.Outcome.{Outcome, only, flatO, None}
+use Rattle.slot_rows.specs.Rows.{rowsOf, flatNums, flatNames}
+use Rattle.slot_rows.proofs.InBuffers.{flat-zero}
+use Rattle.dir_rows.specs.Rows.{flatDirs}
+use Rattle.dir_rows.proofs.InBuffer.{flat-none}
+use Rattle.pool_state.specs.declared.Chosen.{Chosen}
+use Rattle.pool_state.specs.declared.Pool.{Pool}
+use Rattle.pool_state.specs.State.{State, Bufs, bufs, poolOf, flat}
+use Rattle.pool_steps.specs.World.{World, world, Lent, lent, viewW, flatW, Ready}
+use Rattle.pool_steps.proofs.Stays.{world-is}
+use Rattle.pool_steps.specs.Outcome.{Outcome, only, flatO, None}
 use Rattle.mount.specs.Mount.{adoptM, emptyState, mountM, zeroPool, zeroBufs, mounted}
 use Rattle.mount.proofs.Stays.{adopt-refused, empty-fit}
 

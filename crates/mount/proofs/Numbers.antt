@@ -7,12 +7,12 @@ use lib.ListN.{length}
 use Rattle.limits.specs.Limits.{lastCounter}
 use Rattle.device.specs.declared.Geometry.{Geometry}
 use Rattle.device.specs.Device.{Dev}
-use Rattle.table.specs.declared.Chosen.{Chosen}
-use Rattle.steps.specs.World.{World, world}
-use Rattle.steps.proofs.Numbers.{either}
-use Rattle.steps.specs.Outcome.{Out}
-use Rattle.survey.specs.Heads.{readsM}
-use Rattle.survey.specs.Survey.{Survey, scan}
+use Rattle.pool_state.specs.declared.Chosen.{Chosen}
+use Rattle.pool_steps.specs.World.{World, world}
+use Rattle.pool_steps.proofs.Numbers.{either}
+use Rattle.pool_steps.specs.Outcome.{Out}
+use Rattle.mount_survey.specs.Heads.{readsM}
+use Rattle.mount_survey.specs.Survey.{Survey, scan}
 use Rattle.mount.specs.Mount.{adoptM, afterReads, begin, emptyState, mountM, moved, settle, tooMany}
 
 module _ (plan : List ℕ) (g : Geometry) where

@@ -16,17 +16,17 @@ use Rattle.text.specs.Grammar.{text-complete}
 use Rattle.device.specs.declared.Place.{Place}
 use Rattle.device.specs.declared.Geometry.{Geometry}
 use Rattle.device.specs.Device.{Dev, Shape}
-use Rattle.rows.specs.Rows.{unbound, pathOf, isBound, genOf}
-use Rattle.dirs.proofs.Joined.{no-dirs}
-use Rattle.table.specs.declared.Chosen.{Chosen}
-use Rattle.table.specs.State.{State, Valid}
-use Rattle.steps.specs.World.{World, world, Fit}
-use Rattle.steps.specs.Steps.{fineM, freeM, releaseM}
-use Rattle.steps.proofs.Stays.{release-is, release-fit}
-use Rattle.steps.specs.Outcome.{only}
-use Rattle.survey.specs.Heads.{Head, Reads, readsM}
-use Rattle.survey.specs.Survey.{Survey, scan}
-use Rattle.survey.proofs.Surveyed.{scan-length}
+use Rattle.slot_rows.specs.Rows.{unbound, pathOf, isBound, genOf}
+use Rattle.dir_rows.proofs.Joined.{no-dirs}
+use Rattle.pool_state.specs.declared.Chosen.{Chosen}
+use Rattle.pool_state.specs.State.{State, Valid}
+use Rattle.pool_steps.specs.World.{World, world, Fit}
+use Rattle.pool_steps.specs.Steps.{fineM, freeM, releaseM}
+use Rattle.pool_steps.proofs.Stays.{release-is, release-fit}
+use Rattle.pool_steps.specs.Outcome.{only}
+use Rattle.mount_survey.specs.Heads.{Head, Reads, readsM}
+use Rattle.mount_survey.specs.Survey.{Survey, scan}
+use Rattle.mount_survey.proofs.Surveyed.{scan-length}
 use Rattle.mount.specs.Mount.{begin, installed, drain, Due, moved, settle, afterReads, tooMany, adoptM, emptyState, mountM}
 use Rattle.mount.proofs.SurveyKeeps.{AllSane, reads-fine, Sound, Keeps, scan-keeps}
 

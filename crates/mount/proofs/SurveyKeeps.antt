@@ -24,14 +24,14 @@ use Rattle.header.specs.Block as Block
 use Rattle.header.proofs.BlockLaws.{Passed, found}
 use Rattle.device.specs.declared.Geometry.{Geometry}
 use Rattle.device.specs.Device.{Dev, given, turn}
-use Rattle.rows.specs.Rows.{Row, unbound, bound, none, at, isBound, pathOf, genOf, holds, find}
-use Rattle.rows.proofs.Finding.{find-holds, find-none, find-le, holds-path, holds-bound, holds-unbound}
-use Rattle.dirs.specs.Dirs.{registered}
-use Rattle.dirs.proofs.Joined.{joined-short}
-use Rattle.dirs.proofs.Registering.{registered-dirs, ancestors-short}
-use Rattle.table.specs.State.{Slots, Directories}
-use Rattle.survey.specs.Heads.{Head, absent, idle, claim, saidOf, headOf, Reads, behind, looked, readsM}
-use Rattle.survey.specs.Survey.{Survey, survey, claimRow, spare, enter, rival, meet, step, scan}
+use Rattle.slot_rows.specs.Rows.{Row, unbound, bound, none, at, isBound, pathOf, genOf, holds, find}
+use Rattle.slot_rows.proofs.Finding.{find-holds, find-none, find-le, holds-path, holds-bound, holds-unbound}
+use Rattle.dir_rows.specs.Dirs.{registered}
+use Rattle.dir_rows.proofs.Joined.{joined-short}
+use Rattle.dir_rows.proofs.Registering.{registered-dirs, ancestors-short}
+use Rattle.pool_state.specs.State.{Slots, Directories}
+use Rattle.mount_survey.specs.Heads.{Head, absent, idle, claim, saidOf, headOf, Reads, behind, looked, readsM}
+use Rattle.mount_survey.specs.Survey.{Survey, survey, claimRow, spare, enter, rival, meet, step, scan}
 
 -- A bound row is one of the rows.
 bound-inside : (rs : List Row) (j : ℕ) → isBound (at rs j) ≡ true → j < length rs

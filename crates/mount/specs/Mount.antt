@@ -9,14 +9,14 @@ use Rattle.lists.specs.Distinct.{In, Distinct}
 use Rattle.device.specs.declared.Place.{Place}
 use Rattle.device.specs.declared.Geometry.{Geometry}
 use Rattle.device.specs.Device.{Dev, dev}
-use Rattle.table.specs.declared.Chosen.{Chosen}
-use Rattle.table.specs.declared.Pool.{Pool}
-use Rattle.table.specs.State.{State, Bufs, bufs}
-use Rattle.steps.specs.World.{World, world, Lent, lent, flatW}
-use Rattle.steps.specs.Steps.{releaseM}
-use Rattle.steps.specs.Outcome.{Outcome, only, None}
-use Rattle.survey.specs.Heads.{Reads, readsM}
-use Rattle.survey.specs.Survey.{Survey, survey, scan}
+use Rattle.pool_state.specs.declared.Chosen.{Chosen}
+use Rattle.pool_state.specs.declared.Pool.{Pool}
+use Rattle.pool_state.specs.State.{State, Bufs, bufs}
+use Rattle.pool_steps.specs.World.{World, world, Lent, lent, flatW}
+use Rattle.pool_steps.specs.Steps.{releaseM}
+use Rattle.pool_steps.specs.Outcome.{Outcome, only, None}
+use Rattle.mount_survey.specs.Heads.{Reads, readsM}
+use Rattle.mount_survey.specs.Survey.{Survey, survey, scan}
 
 -- The survey of a pool before the first new header.
 abbrev pub begin : State → Survey

@@ -3,17 +3,17 @@
 // then. That the buffers are a pool on its device, and the shapes, the caller has seen.
 use device::Geometry;
 use device::Place;
-use steps::Stepped;
-use table::Chosen;
-use table::Pool;
+use pool_state::Chosen;
+use pool_state::Pool;
+use pool_steps::Stepped;
 ghost use mathlib.Core.Path.{_≡_};
 ghost use Prim.Native.Nat.{_*_, _≤_, max};
 ghost use lib.ListN.{length, take};
 ghost use Rattle.limits.specs.Limits.{maxPath, rowWidth, dirWidth};
 ghost use Rattle.device.specs.Device.{dev, Shape};
-ghost use Rattle.table.specs.State.{bufs, poolOf};
-ghost use Rattle.steps.specs.World.{lent, viewW, flatW, Ready, before, after};
-ghost use Rattle.steps.specs.Outcome.{only, flatO};
+ghost use Rattle.pool_state.specs.State.{bufs, poolOf};
+ghost use Rattle.pool_steps.specs.World.{lent, viewW, flatW, Ready, before, after};
+ghost use Rattle.pool_steps.specs.Outcome.{only, flatO};
 ghost use Rattle.mount.specs.Mount.{drain, Due, adoptM, emptyState, mountM, zeroPool, mounted};
 
 // The number that an adoption came to, the place after it, and the pool's record.
@@ -52,7 +52,7 @@ pub fn drain(
     let mut i = 0;
     while i < count {
         let loser = losers[i] as usize;
-        let s = steps::release(bytes, phys, geometry, plan, at, nums, names, dirs, q, loser);
+        let s = pool_steps::release(bytes, phys, geometry, plan, at, nums, names, dirs, q, loser);
         at = s.place;
         q = s.pool;
         i += 1;
@@ -104,7 +104,7 @@ pub fn adopt(
             pool: pool,
         };
     }
-    let staged = survey::stage(bytes, phys, geometry, plan, place, nums, names, cap, n, k);
+    let staged = mount_survey::stage(bytes, phys, geometry, plan, place, nums, names, cap, n, k);
     let at = staged.place;
     let failed = staged.failed;
     if failed {
@@ -115,12 +115,12 @@ pub fn adopt(
         };
     }
     let m = n + k;
-    let losers = survey::find_losers(nums, names, cap, n, m);
+    let losers = mount_survey::find_losers(nums, names, cap, n, m);
     let list = losers.list;
     let count = losers.count;
     let asked = staged.asked;
     let counter = later(pool.counter, asked);
-    let accepted = install::accept(nums, names, dirs, pool, m, counter, count);
+    let accepted = mount_install::accept(nums, names, dirs, pool, m, counter, count);
     let out = accepted.out;
     if out != 0 {
         return Adopted {
@@ -130,7 +130,7 @@ pub fn adopt(
         };
     }
     let d = accepted.dirs;
-    let held = install::install(nums, names, pool, m, d, counter, list, count);
+    let held = mount_install::install(nums, names, pool, m, d, counter, list, count);
     let drained = drain(
         bytes,
         phys,
@@ -209,9 +209,9 @@ pub fn mount_rows(
         only (r .out) (after bytes phys (r .place) nums names dirs (r .pool))
         ≡ mounted (mountM (now (plan .entry)) geometry chosen k (dev (now (bytes .entry)) (now (phys .entry)) place)) ⌝ }
 {
-    rows::clear_rows(nums, names);
+    slot_rows::clear_rows(nums, names);
     let d = dirs.len();
-    rows::zero_in(dirs, 0, d);
+    slot_rows::zero_in(dirs, 0, d);
     let pool = empty(chosen);
     let adopted = adopt(
         bytes,

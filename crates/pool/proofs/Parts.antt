@@ -12,9 +12,9 @@ use denote.Laws.{Is}
 use denote.Steps.{owned}
 use denote.Struct.Laws as LL
 use denote.Enum.Laws as EL
-use Rattle.table.specs.declared.Pool.{Pool}
-use Rattle.table.proofs.Pool as Po
-use Rattle.table.proofs.Pool.Laws as Po′
+use Rattle.pool_state.specs.declared.Pool.{Pool}
+use Rattle.pool_state.proofs.Pool as Po
+use Rattle.pool_state.proofs.Pool.Laws as Po′
 use Rattle.calls_gate.specs.declared.Call.{Call}
 use Rattle.calls_gate.specs.declared.Reply.{Reply}
 use Rattle.calls_gate.proofs.Call as Ca

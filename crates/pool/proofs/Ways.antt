@@ -11,12 +11,12 @@ use Rattle.limits.specs.Limits.{rowWidth}
 use Rattle.device.specs.declared.Geometry.{Geometry}
 use Rattle.device.specs.declared.Place.{Place}
 use Rattle.device.specs.Device.{dev}
-use Rattle.records.specs.declared.Slot.{Slot}
-use Rattle.records.specs.Records.{numsOf, stored, flatOf, cleared}
-use Rattle.records.specs.SameNumbers.{length-nums, flat-front, nums-stored, nums-cleared}
-use Rattle.table.specs.declared.Pool.{Pool}
-use Rattle.table.specs.State.{bufs}
-use Rattle.steps.specs.World.{lent}
+use Rattle.slot_records.specs.declared.Slot.{Slot}
+use Rattle.slot_records.specs.Records.{numsOf, stored, flatOf, cleared}
+use Rattle.slot_records.specs.SameNumbers.{length-nums, flat-front, nums-stored, nums-cleared}
+use Rattle.pool_state.specs.declared.Pool.{Pool}
+use Rattle.pool_state.specs.State.{bufs}
+use Rattle.pool_steps.specs.World.{lent}
 use Rattle.mount.specs.Mount.{zeroPool}
 use Rattle.calls_gate.specs.declared.Answer.the-variants.{NotPool, WrongShape}
 use Rattle.calls_gate.specs.Answers.{numberOf}

@@ -7,11 +7,11 @@ use denote.Triple.Both.{Both}
 use Rattle.device.specs.declared.Geometry.{Geometry}
 use Rattle.device.specs.declared.Place.{Place}
 use Rattle.device.specs.Device.{dev}
-use Rattle.records.specs.declared.Slot.{Slot}
-use Rattle.records.specs.Records.{numsOf}
-use Rattle.table.specs.declared.Pool.{Pool}
-use Rattle.table.specs.State.{bufs}
-use Rattle.steps.specs.World.{Lent, lent}
+use Rattle.slot_records.specs.declared.Slot.{Slot}
+use Rattle.slot_records.specs.Records.{numsOf}
+use Rattle.pool_state.specs.declared.Pool.{Pool}
+use Rattle.pool_state.specs.State.{bufs}
+use Rattle.pool_steps.specs.World.{Lent, lent}
 use Rattle.calls_gate.specs.declared.Call.{Call}
 use Rattle.calls_gate.specs.declared.Reply.{Reply}
 use Rattle.calls_gate.specs.Replies.{replied}

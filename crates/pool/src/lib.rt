@@ -8,17 +8,17 @@ use calls_gate::Reply;
 use device::Geometry;
 use device::Place;
 use limits::ROW_WIDTH;
-use records::Slot;
-use table::Pool;
+use pool_state::Pool;
+use slot_records::Slot;
 ghost use mathlib.Core.Path.{_≡_};
 ghost use Prim.Native.Nat.{_*_, _≤_};
 ghost use mathlib.Core.Bool.{cond};
 ghost use lib.ListN.{length, take};
 ghost use Rattle.limits.specs.Limits.{rowWidth};
 ghost use Rattle.device.specs.Device.{dev};
-ghost use Rattle.table.specs.State.{bufs};
-ghost use Rattle.steps.specs.World.{lent};
-ghost use Rattle.records.specs.Records.{numsOf};
+ghost use Rattle.pool_state.specs.State.{bufs};
+ghost use Rattle.pool_steps.specs.World.{lent};
+ghost use Rattle.slot_records.specs.Records.{numsOf};
 ghost use Rattle.calls_gate.specs.declared.Answer.the-variants.{NotPool, WrongShape};
 ghost use Rattle.mount.specs.Mount.{zeroPool};
 ghost use Rattle.calls_gate.specs.Table.{zeroed, takesOf};
@@ -51,9 +51,9 @@ fn too_many(place: Place, names: &mut [u8], dirs: &mut [u8], pool: Pool, call: C
     let takes = calls_gate::takes_of(call);
     if takes.mounts {
         let n = names.len();
-        rows::zero_in(names, 0, n);
+        slot_rows::zero_in(names, 0, n);
         let d = dirs.len();
-        rows::zero_in(dirs, 0, d);
+        slot_rows::zero_in(dirs, 0, d);
         let zero = mount::zero();
         let refused = Answer::WrongShape;
         return calls_gate::silent(refused, place, zero);
@@ -135,10 +135,10 @@ fn enter(
     let n = rows.len();
     if 64 < n {
         let k = lost(call, n);
-        records::clear(rows, k);
+        slot_records::clear(rows, k);
         return too_many(place, names, dirs, pool, call);
     }
-    let mut nums = records::flat(rows);
+    let mut nums = slot_records::flat(rows);
     let reply = on_front(
         bytes,
         phys,
@@ -155,7 +155,7 @@ fn enter(
         second,
         buf,
     );
-    records::keep(rows, nums);
+    slot_records::keep(rows, nums);
     reply
 }
 

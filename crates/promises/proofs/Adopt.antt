@@ -19,19 +19,19 @@ use Rattle.device.specs.AnyDevice.{look}
 use Rattle.device.specs.Calls.{blockOf}
 use Rattle.device.proofs.CallByCall.{be-may}
 use Rattle.device.proofs.Memory.{memory}
-use Rattle.dirs.specs.Dirs.{Dirs}
-use Rattle.table.specs.State.{State}
-use Rattle.steps.specs.World.{World}
-use Rattle.steps.specs.Steps.{releaseM}
-use Rattle.steps.proofs.Stays.{release-is}
-use Rattle.steps.specs.Outcome.{Outcome, None, only}
-use Rattle.survey.specs.Heads.{headOf, Reads, behind, looked, readsM}
-use Rattle.survey.specs.Survey.{Survey}
-use Rattle.survey.specs.Survey as S
+use Rattle.dir_rows.specs.Dirs.{Dirs}
+use Rattle.pool_state.specs.State.{State}
+use Rattle.pool_steps.specs.World.{World}
+use Rattle.pool_steps.specs.Steps.{releaseM}
+use Rattle.pool_steps.proofs.Stays.{release-is}
+use Rattle.pool_steps.specs.Outcome.{Outcome, None, only}
+use Rattle.mount_survey.specs.Heads.{headOf, Reads, behind, looked, readsM}
+use Rattle.mount_survey.specs.Survey.{Survey}
+use Rattle.mount_survey.specs.Survey as S
 use Rattle.mount.specs.Mount.{begin, installed, drain, moved, settle, afterReads, tooMany, adoptM}
 use Rattle.mount.proofs.Stays.{room-for}
-use Rattle.model.specs.Model.{Kit}
-use Rattle.model.specs.Model as M
+use Rattle.promises_model.specs.Model.{Kit}
+use Rattle.promises_model.specs.Model as M
 use Rattle.promises.specs.Demand3.{headerAt, Untouched, reading, surveyed, standing}
 use Rattle.promises.proofs.Kit.{said, looks, realKit}
 use Rattle.promises.proofs.Bridge.{plain, shown, shownW, pooled, scan-is, scan-dirs, drain-is}

@@ -7,15 +7,15 @@ use mathlib.Core.List.{List, []}
 use Rattle.device.specs.declared.Place.{Place}
 use Rattle.device.specs.declared.Geometry.{Geometry}
 use Rattle.device.specs.Device.{dev}
-use Rattle.model.specs.Model.{Kit}
-use Rattle.model.specs.Model as M
-use Rattle.model.specs.Best as B
-use Rattle.model.specs.Promise as P
-use Rattle.model.proofs.Pool.{Pool}
-use Rattle.model.proofs.Card.{Card}
-use Rattle.model.proofs.Again.{now, again-pool, again-files, again-dirs}
-use Rattle.model.proofs.Queue.{Calm, again-free}
-use Rattle.model.proofs.Theorem.{demand-of-all}
+use Rattle.promises_model.specs.Model.{Kit}
+use Rattle.promises_model.specs.Model as M
+use Rattle.promises_model.specs.Best as B
+use Rattle.promises_model.specs.Promise as P
+use Rattle.promises_model.proofs.Pool.{Pool}
+use Rattle.promises_model.proofs.Card.{Card}
+use Rattle.promises_model.proofs.Again.{now, again-pool, again-files, again-dirs}
+use Rattle.promises_model.proofs.Queue.{Calm, again-free}
+use Rattle.promises_model.proofs.Theorem.{demand-of-all}
 use Rattle.promises.specs.Demand3.{headerAt}
 use Rattle.promises.proofs.Kit.{Planned, planned, looks, realKit}
 

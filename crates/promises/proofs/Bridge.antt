@@ -16,21 +16,21 @@ use Rattle.path.specs.Theorems.{same-path-sym, normal-bytes}
 use Rattle.path.proofs.Ancestors.{ancestor-normal}
 use Rattle.device.specs.declared.Geometry.{Geometry}
 use Rattle.device.specs.Device.{Dev}
-use Rattle.rows.specs.Rows.{Row, unbound, bound, none, at, holds, find}
-use Rattle.dirs.specs.Dirs.{Normals, Dirs, hasPath, registered, joinedEach}
-use Rattle.dirs.proofs.Registering.{ancestors-dirs, registered-dirs, one-by-one}
-use Rattle.table.specs.State.{State}
-use Rattle.table.specs.Queue.{spent, queued}
-use Rattle.table.specs.Changes.{withRow}
-use Rattle.steps.specs.World.{World}
-use Rattle.steps.specs.Steps.{fineM, freeM, unbinds, released, releaseM}
-use Rattle.survey.specs.Heads.{Head, absent, idle, claim}
-use Rattle.survey.specs.Survey.{Survey}
-use Rattle.survey.specs.Survey as S
+use Rattle.slot_rows.specs.Rows.{Row, unbound, bound, none, at, holds, find}
+use Rattle.dir_rows.specs.Dirs.{Normals, Dirs, hasPath, registered, joinedEach}
+use Rattle.dir_rows.proofs.Registering.{ancestors-dirs, registered-dirs, one-by-one}
+use Rattle.pool_state.specs.State.{State}
+use Rattle.pool_state.specs.Queue.{spent, queued}
+use Rattle.pool_state.specs.Changes.{withRow}
+use Rattle.pool_steps.specs.World.{World}
+use Rattle.pool_steps.specs.Steps.{fineM, freeM, unbinds, released, releaseM}
+use Rattle.mount_survey.specs.Heads.{Head, absent, idle, claim}
+use Rattle.mount_survey.specs.Survey.{Survey}
+use Rattle.mount_survey.specs.Survey as S
 use Rattle.mount.specs.Mount.{drain}
-use Rattle.model.specs.Model.{Kit}
-use Rattle.model.specs.Model as M
-use Rattle.model.proofs.Moves.{step-moves}
+use Rattle.promises_model.specs.Model.{Kit}
+use Rattle.promises_model.specs.Model as M
+use Rattle.promises_model.proofs.Moves.{step-moves}
 use Rattle.promises.proofs.Kit.{planned, claimOf, said, realKit}
 
 -- ---- lists

@@ -4,10 +4,10 @@ use Prim.Native.Nat.{_+_}
 use mathlib.Core.Path.{_≡_, sym, ap, subst, _∙_}
 use borrow.Author.Tests.{eq-eqb}
 use Rattle.device.specs.declared.Geometry.{Geometry}
-use Rattle.table.specs.State.{State, view, IsPool}
-use Rattle.steps.specs.World.{World, Lent, viewW, flatW, Fit}
-use Rattle.steps.proofs.Stays.{world-is}
-use Rattle.steps.specs.Outcome.{Outcome, None, flatO}
+use Rattle.pool_state.specs.State.{State, view, IsPool}
+use Rattle.pool_steps.specs.World.{World, Lent, viewW, flatW, Fit}
+use Rattle.pool_steps.proofs.Stays.{world-is}
+use Rattle.pool_steps.specs.Outcome.{Outcome, None, flatO}
 use Rattle.mount.specs.Mount.{mounted}
 use Rattle.mount.proofs.Stays.{adopt-valid, mount-valid}
 use Rattle.promises.specs.Demand3.{Trial, headers, emptyOne, emptyTwo, whole, firstPart, both, Rule, SameFiles}

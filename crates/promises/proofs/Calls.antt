@@ -18,22 +18,22 @@ use Rattle.device.specs.Device.{Dev, turn, stops, dataTruncateM}
 use Rattle.device.specs.AnyDevice.{truncate}
 use Rattle.device.proofs.CallByCall.{acts}
 use Rattle.device.proofs.Memory.{memory}
-use Rattle.rows.specs.Rows.{file, bound, none, at, lenOf}
-use Rattle.dirs.specs.Dirs.{registered}
-use Rattle.table.specs.State.{State, view}
-use Rattle.table.specs.Queue.{spent, unqueued}
-use Rattle.table.specs.Changes.{withRow, withDirs}
-use Rattle.table.specs.InBuffers.{view-flat}
-use Rattle.steps.specs.World.{World, world, viewW, flatW, Fit, Ready}
-use Rattle.steps.specs.Steps.{fineM}
-use Rattle.steps.proofs.Stays.{ready-fit}
-use Rattle.steps.specs.Outcome.{Outcome, outcome, flatO}
-use Rattle.handles.specs.Handles.{isLive, Filling, filling, readPart, readAtM}
-use Rattle.handles.proofs.Stays.{stays}
-use Rattle.files.specs.Files.{isFile, roomFor, registers, binds, Handle, handle, noHandle}
-use Rattle.files.specs.Files.{created, createM, admitsNew, openNewM, openWriteM}
-use Rattle.files.proofs.Stays.{first-held, open-write-fit}
-use Rattle.renames.specs.Rename.{frontM, renameM}
+use Rattle.slot_rows.specs.Rows.{file, bound, none, at, lenOf}
+use Rattle.dir_rows.specs.Dirs.{registered}
+use Rattle.pool_state.specs.State.{State, view}
+use Rattle.pool_state.specs.Queue.{spent, unqueued}
+use Rattle.pool_state.specs.Changes.{withRow, withDirs}
+use Rattle.pool_state.specs.InBuffers.{view-flat}
+use Rattle.pool_steps.specs.World.{World, world, viewW, flatW, Fit, Ready}
+use Rattle.pool_steps.specs.Steps.{fineM}
+use Rattle.pool_steps.proofs.Stays.{ready-fit}
+use Rattle.pool_steps.specs.Outcome.{Outcome, outcome, flatO}
+use Rattle.inner_handle.specs.Handles.{isLive, Filling, filling, readPart, readAtM}
+use Rattle.inner_handle.proofs.Stays.{stays}
+use Rattle.inner_open.specs.Files.{isFile, roomFor, registers, binds, Handle, handle, noHandle}
+use Rattle.inner_open.specs.Files.{created, createM, admitsNew, openNewM, openWriteM}
+use Rattle.inner_open.proofs.Stays.{first-held, open-write-fit}
+use Rattle.inner_rename.specs.Rename.{frontM, renameM}
 use Rattle.calls_gate.specs.declared.Call.the-variants.{OpenWrite, ReadAt, Rename}
 use Rattle.calls_gate.specs.Table.{takesOf, textIf}
 use Rattle.calls_gate.specs.Replies.{Came}

@@ -23,19 +23,19 @@ use Rattle.device.specs.declared.Geometry.{Geometry}
 use Rattle.device.specs.Device.{Shape, physOf}
 use Rattle.device.specs.Slots.{partOf}
 use Rattle.device.proofs.Memory.{memory}
-use Rattle.rows.specs.Rows.{at, isBound, pathOf, genOf, lenOf}
-use Rattle.dirs.specs.Dirs.{Dirs}
-use Rattle.table.specs.State.{State}
-use Rattle.table.specs.declared.Chosen.{Chosen}
-use Rattle.steps.specs.World.{World, world}
-use Rattle.steps.specs.Steps.{fineM, freeM, releaseM}
-use Rattle.steps.proofs.Stays.{release-is}
-use Rattle.steps.specs.Outcome.{Outcome, None}
-use Rattle.survey.specs.Heads.{Head, absent, idle, claim, saidOf, headOf}
-use Rattle.survey.specs.Claims.{rowOf}
-use Rattle.survey.specs.Staged.{spares, wants}
-use Rattle.survey.specs.Survey.{Survey}
-use Rattle.survey.proofs.Surveyed.{scan-free}
+use Rattle.slot_rows.specs.Rows.{at, isBound, pathOf, genOf, lenOf}
+use Rattle.dir_rows.specs.Dirs.{Dirs}
+use Rattle.pool_state.specs.State.{State}
+use Rattle.pool_state.specs.declared.Chosen.{Chosen}
+use Rattle.pool_steps.specs.World.{World, world}
+use Rattle.pool_steps.specs.Steps.{fineM, freeM, releaseM}
+use Rattle.pool_steps.proofs.Stays.{release-is}
+use Rattle.pool_steps.specs.Outcome.{Outcome, None}
+use Rattle.mount_survey.specs.Heads.{Head, absent, idle, claim, saidOf, headOf}
+use Rattle.mount_survey.specs.Claims.{rowOf}
+use Rattle.mount_survey.specs.Staged.{spares, wants}
+use Rattle.mount_survey.specs.Survey.{Survey}
+use Rattle.mount_survey.proofs.Surveyed.{scan-free}
 use Rattle.mount.specs.Mount.{installed, drain, emptyState, mountM}
 use Rattle.calls_gate.specs.Table.{chosenOf}
 use Rattle.promises.specs.Demand3.{headerAt, Best, Holds, Rule, surveyed, standing}

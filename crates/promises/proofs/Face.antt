@@ -11,14 +11,14 @@ use Rattle.limits.specs.Limits.{rowWidth}
 use Rattle.device.specs.declared.Place.{Place}
 use Rattle.device.specs.Device.{dev}
 use Rattle.device.proofs.Shapes.{shape-means}
-use Rattle.records.specs.declared.Slot.{Slot}
-use Rattle.records.specs.Records.{numsOf, slotsOf}
-use Rattle.records.specs.SameNumbers.{slots-nums, length-nums}
-use Rattle.table.specs.declared.Chosen.{Chosen}
-use Rattle.table.specs.State.{bufs}
-use Rattle.steps.specs.World.{World, Lent, lent, flatW}
-use Rattle.steps.proofs.Stays.{world-is}
-use Rattle.steps.specs.Outcome.{Outcome, None, only, flatO}
+use Rattle.slot_records.specs.declared.Slot.{Slot}
+use Rattle.slot_records.specs.Records.{numsOf, slotsOf}
+use Rattle.slot_records.specs.SameNumbers.{slots-nums, length-nums}
+use Rattle.pool_state.specs.declared.Chosen.{Chosen}
+use Rattle.pool_state.specs.State.{bufs}
+use Rattle.pool_steps.specs.World.{World, Lent, lent, flatW}
+use Rattle.pool_steps.proofs.Stays.{world-is}
+use Rattle.pool_steps.specs.Outcome.{Outcome, None, only, flatO}
 use Rattle.mount.specs.Mount.{mounted, mountM, adoptM}
 use Rattle.mount.proofs.Stays.{mount-valid}
 use Rattle.calls_gate.specs.declared.Call.the-variants.{Adopt}

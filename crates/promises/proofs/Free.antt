@@ -20,10 +20,10 @@ use Rattle.device.specs.Device.{Dev, Shape, headerWriteM}
 use Rattle.device.specs.AnyDevice.{same-block}
 use Rattle.device.specs.Calls.{blockOf}
 use Rattle.device.proofs.Memory.{memory}
-use Rattle.steps.specs.Steps.{fineM, putM, freeBlock, freeM}
-use Rattle.steps.proofs.Stays.{length-free}
-use Rattle.steps.proofs.Frees.{free-others, put-stopped, free-block}
-use Rattle.survey.specs.Heads.{absent, idle, saidOf, headOf}
+use Rattle.pool_steps.specs.Steps.{fineM, putM, freeBlock, freeM}
+use Rattle.pool_steps.proofs.Stays.{length-free}
+use Rattle.pool_steps.proofs.Frees.{free-others, put-stopped, free-block}
+use Rattle.mount_survey.specs.Heads.{absent, idle, saidOf, headOf}
 use Rattle.promises.specs.Demand3.{headerAt}
 
 -- ---- what blocks say

@@ -11,11 +11,11 @@ use Rattle.path.specs.Theorems.{same-path, same-path-refl, same-path-sym, same-
 use Rattle.path.proofs.Ancestors.{ancestors-same}
 use Rattle.device.specs.declared.Geometry.{Geometry}
 use Rattle.device.specs.Device.{Dev, Shape}
-use Rattle.steps.specs.Steps.{fineM, freeM}
-use Rattle.steps.proofs.Stays.{free-kept}
-use Rattle.survey.specs.Heads.{Head, absent, idle, claim, looked}
-use Rattle.model.specs.Model.{Claim, Kit}
-use Rattle.model.specs.Model as M
+use Rattle.pool_steps.specs.Steps.{fineM, freeM}
+use Rattle.pool_steps.proofs.Stays.{free-kept}
+use Rattle.mount_survey.specs.Heads.{Head, absent, idle, claim, looked}
+use Rattle.promises_model.specs.Model.{Claim, Kit}
+use Rattle.promises_model.specs.Model as M
 use Rattle.promises.specs.Demand3.{headerAt}
 use Rattle.promises.proofs.Free.{free-keeps, free-frees, free-stays}
 

@@ -7,17 +7,17 @@ use lib.ListN.{length}
 use Rattle.lists.specs.Distinct.Distinct.{none}
 use Rattle.device.specs.declared.Geometry.{Geometry}
 use Rattle.device.specs.Device.{Dev, Shape}
-use Rattle.dirs.specs.Dirs.{Dirs}
-use Rattle.table.specs.declared.Chosen.{Chosen}
-use Rattle.steps.specs.World.{World, world}
-use Rattle.steps.specs.Outcome.{only}
+use Rattle.dir_rows.specs.Dirs.{Dirs}
+use Rattle.pool_state.specs.declared.Chosen.{Chosen}
+use Rattle.pool_steps.specs.World.{World, world}
+use Rattle.pool_steps.specs.Outcome.{only}
 use Rattle.mount.specs.Mount.{emptyState, mountM}
-use Rattle.model.specs.Model.{Kit}
-use Rattle.model.specs.Model as M
-use Rattle.model.specs.Best as B
-use Rattle.model.specs.Promise as P
-use Rattle.model.proofs.Pool.{mount-pool}
-use Rattle.model.proofs.Winner.{rule}
+use Rattle.promises_model.specs.Model.{Kit}
+use Rattle.promises_model.specs.Model as M
+use Rattle.promises_model.specs.Best as B
+use Rattle.promises_model.specs.Promise as P
+use Rattle.promises_model.proofs.Pool.{mount-pool}
+use Rattle.promises_model.proofs.Winner.{rule}
 use Rattle.promises.specs.Demand3.{headerAt, Untouched, Rule, NoneFails}
 use Rattle.promises.proofs.Kit.{planned, realKit}
 use Rattle.promises.proofs.Adopt.{Runs, done, accepted-is, accepted-runs, came-accepts}

@@ -11,11 +11,11 @@ use borrow.Author.Tests.{eq-eqb, eqb-true, le-leb}
 use Rattle.device.specs.declared.Geometry.{Geometry}
 use Rattle.device.specs.Device.{Shape, shapeB}
 use Rattle.device.proofs.Shapes.{shape-means}
-use Rattle.table.specs.State.{view}
-use Rattle.admit.proofs.Exactly.{pool-tested}
-use Rattle.steps.specs.World.{World, Lent, viewW, flatW, Ready}
-use Rattle.steps.proofs.Stays.{world-is}
-use Rattle.steps.specs.Outcome.{Outcome, None}
+use Rattle.pool_state.specs.State.{view}
+use Rattle.pool_test.proofs.Exactly.{pool-tested}
+use Rattle.pool_steps.specs.World.{World, Lent, viewW, flatW, Ready}
+use Rattle.pool_steps.proofs.Stays.{world-is}
+use Rattle.pool_steps.specs.Outcome.{Outcome, None}
 use Rattle.mount.specs.Mount.{mounted, mountM}
 use Rattle.mount.proofs.Stays.{mount-valid}
 use Rattle.calls_gate.specs.declared.Call.{Call}

@@ -13,20 +13,20 @@ use Rattle.lists.specs.Distinct.{In}
 use Rattle.path.specs.Path.{samePath}
 use Rattle.device.specs.declared.Geometry.{Geometry}
 use Rattle.device.specs.Device.{Dev, Shape}
-use Rattle.table.specs.declared.Chosen.{Chosen}
-use Rattle.steps.specs.World.{World, world}
-use Rattle.survey.specs.Heads.{Head, claim}
-use Rattle.survey.specs.Staged.{wants, wantedOf}
-use Rattle.survey.specs.Survey.{Survey}
-use Rattle.survey.proofs.Surveyed.{scan-counter}
+use Rattle.pool_state.specs.declared.Chosen.{Chosen}
+use Rattle.pool_steps.specs.World.{World, world}
+use Rattle.mount_survey.specs.Heads.{Head, claim}
+use Rattle.mount_survey.specs.Staged.{wants, wantedOf}
+use Rattle.mount_survey.specs.Survey.{Survey}
+use Rattle.mount_survey.proofs.Surveyed.{scan-counter}
 use Rattle.mount.specs.Mount.{emptyState}
-use Rattle.model.specs.Model.{Kit}
-use Rattle.model.specs.Model as M
-use Rattle.model.proofs.Loops.{bound≢unbound}
-use Rattle.model.specs.Best as B
-use Rattle.model.proofs.Rows.{inside}
-use Rattle.model.proofs.Dirs.{dirsOf-registered, survey-dirs}
-use Rattle.model.proofs.Pool.{Scanned, empty-pool, survey-fit}
+use Rattle.promises_model.specs.Model.{Kit}
+use Rattle.promises_model.specs.Model as M
+use Rattle.promises_model.proofs.Loops.{bound≢unbound}
+use Rattle.promises_model.specs.Best as B
+use Rattle.promises_model.proofs.Rows.{inside}
+use Rattle.promises_model.proofs.Dirs.{dirsOf-registered, survey-dirs}
+use Rattle.promises_model.proofs.Pool.{Scanned, empty-pool, survey-fit}
 use Rattle.promises.specs.Demand3.{headerAt, Untouched, Registered, surveyed}
 use Rattle.promises.proofs.Kit.{looks, planned, realKit}
 use Rattle.promises.proofs.Bridge.{shown}

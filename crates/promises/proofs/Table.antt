@@ -14,19 +14,19 @@ use Rattle.header.specs.declared.Header.{Header}
 use Rattle.header.specs.declared.Decoded.the-variants.{Found}
 use Rattle.path.specs.Path.{ancestors}
 use Rattle.device.proofs.Shapes.{shape-means}
-use Rattle.rows.specs.Rows.{find}
-use Rattle.dirs.specs.Dirs.{registered}
-use Rattle.dirs.proofs.Joined.{absent-few}
-use Rattle.dirs.proofs.Registering.{length-registered}
-use Rattle.table.specs.State.{State}
-use Rattle.steps.specs.World.{World}
-use Rattle.survey.specs.Heads.{absent, claim}
-use Rattle.survey.specs.Staged.{wants}
-use Rattle.survey.specs.Survey.{Survey}
-use Rattle.steps.specs.Outcome.{Outcome, None, only}
+use Rattle.slot_rows.specs.Rows.{find}
+use Rattle.dir_rows.specs.Dirs.{registered}
+use Rattle.dir_rows.proofs.Joined.{absent-few}
+use Rattle.dir_rows.proofs.Registering.{length-registered}
+use Rattle.pool_state.specs.State.{State}
+use Rattle.pool_steps.specs.World.{World}
+use Rattle.mount_survey.specs.Heads.{absent, claim}
+use Rattle.mount_survey.specs.Staged.{wants}
+use Rattle.mount_survey.specs.Survey.{Survey}
+use Rattle.pool_steps.specs.Outcome.{Outcome, None, only}
 use Rattle.mount.specs.Mount.{installed, drain, moved, emptyState, mountM}
 use Rattle.mount.specs.Mount as Mount
-use Rattle.files.specs.Files.{isFile}
+use Rattle.inner_open.specs.Files.{isFile}
 use Rattle.calls_gate.specs.declared.Call.the-variants.{OpenWrite}
 use Rattle.calls_gate.specs.Table.{dirRows}
 use Rattle.calls_gate.specs.Replies as replies

@@ -7,19 +7,19 @@ use mathlib.Core.List.{List, []}
 use lib.ListN.{length, length-map}
 use Rattle.device.specs.declared.Geometry.{Geometry}
 use Rattle.device.specs.Device.{Dev, dev, Shape}
-use Rattle.table.specs.declared.Chosen.{Chosen}
-use Rattle.steps.specs.World.{World, world}
-use Rattle.steps.specs.Outcome.{Outcome, None, only}
+use Rattle.pool_state.specs.declared.Chosen.{Chosen}
+use Rattle.pool_steps.specs.World.{World, world}
+use Rattle.pool_steps.specs.Outcome.{Outcome, None, only}
 use Rattle.mount.specs.Mount.{emptyState, mountM}
-use Rattle.model.specs.Model.{Kit}
-use Rattle.model.specs.Model as M
-use Rattle.model.specs.Best as B
-use Rattle.model.specs.Promise as P
-use Rattle.model.proofs.Pool.{Pool, mount-pool}
-use Rattle.model.proofs.Split.{both-pool}
-use Rattle.model.proofs.Card.{Card, mount-card, adopt-card}
-use Rattle.model.proofs.Queue.{Calm, mount-calm, adopt-calm}
-use Rattle.model.proofs.Theorem.{demand-of-all, again-whatever-fails}
+use Rattle.promises_model.specs.Model.{Kit}
+use Rattle.promises_model.specs.Model as M
+use Rattle.promises_model.specs.Best as B
+use Rattle.promises_model.specs.Promise as P
+use Rattle.promises_model.proofs.Pool.{Pool, mount-pool}
+use Rattle.promises_model.proofs.Split.{both-pool}
+use Rattle.promises_model.proofs.Card.{Card, mount-card, adopt-card}
+use Rattle.promises_model.proofs.Queue.{Calm, mount-calm, adopt-calm}
+use Rattle.promises_model.proofs.Theorem.{demand-of-all, again-whatever-fails}
 use Rattle.promises.specs.Demand3.{headerAt, Untouched, SameFiles, SameDirs, SameFree, Again}
 use Rattle.promises.specs.Demand3.{Trial, headers, emptyOne, emptyTwo, whole, firstPart, both, QuietWhole, QuietBoth, Given, Below62}
 use Rattle.promises.specs.Demand3.{TheRule, SplitIsOneMount, FreeSlotsSame, AgainWhole, AgainBoth, Demand3, Demand3OfAll}

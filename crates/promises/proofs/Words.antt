@@ -8,17 +8,17 @@ use mathlib.Core.List.{List, [], _∷_, map}
 use lib.ListN.{length, length-map}
 use Rattle.device.specs.declared.Geometry.{Geometry}
 use Rattle.device.specs.Device.{Shape}
-use Rattle.rows.specs.Rows.{Row, unbound, bound, at, isBound, pathOf, genOf, lenOf, find}
-use Rattle.dirs.specs.Dirs.{Dirs}
-use Rattle.steps.specs.World.{World}
-use Rattle.steps.specs.Steps.{releaseM}
-use Rattle.survey.specs.Heads.{Head, absent, idle, claim}
-use Rattle.survey.specs.Staged.{wants}
-use Rattle.model.specs.Model.{Claim, Kit}
-use Rattle.model.specs.Model as M
-use Rattle.model.proofs.Loops.{unbound≢bound, absent≢claim, idle≢claim}
-use Rattle.model.specs.Best as B
-use Rattle.model.specs.Promise as P
+use Rattle.slot_rows.specs.Rows.{Row, unbound, bound, at, isBound, pathOf, genOf, lenOf, find}
+use Rattle.dir_rows.specs.Dirs.{Dirs}
+use Rattle.pool_steps.specs.World.{World}
+use Rattle.pool_steps.specs.Steps.{releaseM}
+use Rattle.mount_survey.specs.Heads.{Head, absent, idle, claim}
+use Rattle.mount_survey.specs.Staged.{wants}
+use Rattle.promises_model.specs.Model.{Claim, Kit}
+use Rattle.promises_model.specs.Model as M
+use Rattle.promises_model.proofs.Loops.{unbound≢bound, absent≢claim, idle≢claim}
+use Rattle.promises_model.specs.Best as B
+use Rattle.promises_model.specs.Promise as P
 use Rattle.promises.specs.Demand3.{Untouched, Best, Holds, Rule, Registered, SameFiles, SameDirs, SameFree, AllFine, NoneFails}
 use Rattle.promises.specs.Demand3.{surveyed, standing}
 use Rattle.promises.proofs.Kit.{claimOf, said, realKit}

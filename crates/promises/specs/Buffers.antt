@@ -3,9 +3,9 @@
 -- parts is true of the buffers that the code leaves.
 use Prim.Native.Nat.{_+_, _≤_}
 use mathlib.Core.Path.{_≡_}
-use Rattle.table.specs.State.{view, IsPool}
-use Rattle.steps.specs.World.{Lent}
-use Rattle.steps.specs.Outcome.{Outcome, None, flatO}
+use Rattle.pool_state.specs.State.{view, IsPool}
+use Rattle.pool_steps.specs.World.{Lent}
+use Rattle.pool_steps.specs.Outcome.{Outcome, None, flatO}
 use Rattle.mount.specs.Mount.{mounted}
 use Rattle.promises.specs.Demand3.{Trial, headers, whole, both, Given, Rule, SameFiles}
 

@@ -20,15 +20,15 @@ use Rattle.device.specs.declared.Place.{Place}
 use Rattle.device.specs.declared.Geometry.{Geometry}
 use Rattle.device.specs.Device.{Dev, dev, Shape}
 use Rattle.device.specs.Calls.{blockOf}
-use Rattle.rows.specs.Rows.{Row, at, isBound, pathOf, genOf, lenOf, find}
-use Rattle.table.specs.declared.Chosen.{Chosen}
-use Rattle.table.specs.State.{State}
-use Rattle.steps.specs.World.{World, world}
-use Rattle.steps.specs.Steps.{fineM, freeM, releaseM}
-use Rattle.steps.specs.Outcome.{Outcome, None}
-use Rattle.survey.specs.Heads.{Head, claim, headOf, Reads, readsM}
-use Rattle.survey.specs.Staged.{wants}
-use Rattle.survey.specs.Survey.{Survey, scan}
+use Rattle.slot_rows.specs.Rows.{Row, at, isBound, pathOf, genOf, lenOf, find}
+use Rattle.pool_state.specs.declared.Chosen.{Chosen}
+use Rattle.pool_state.specs.State.{State}
+use Rattle.pool_steps.specs.World.{World, world}
+use Rattle.pool_steps.specs.Steps.{fineM, freeM, releaseM}
+use Rattle.pool_steps.specs.Outcome.{Outcome, None}
+use Rattle.mount_survey.specs.Heads.{Head, claim, headOf, Reads, readsM}
+use Rattle.mount_survey.specs.Staged.{wants}
+use Rattle.mount_survey.specs.Survey.{Survey, scan}
 use Rattle.mount.specs.Mount.{begin, installed, moved, adoptM, emptyState, mountM}
 
 -- ---- the headers on the device

@@ -19,16 +19,16 @@ use Rattle.device.specs.declared.Geometry.{Geometry}
 use Rattle.device.specs.Device.{Dev, Shape, physOf}
 use Rattle.device.specs.Slots.{partOf}
 use Rattle.device.specs.Calls.{blockOf}
-use Rattle.rows.specs.Rows.{Row, file, bound, at, isBound, lenOf}
-use Rattle.dirs.specs.Dirs.{registered}
-use Rattle.table.specs.declared.Pool.{Pool}
-use Rattle.table.specs.State.{State, bufs, view}
-use Rattle.steps.specs.World.{Lent, lent, viewW, Ready}
-use Rattle.survey.specs.Heads.{Head, absent, claim}
-use Rattle.survey.specs.Staged.{wants}
-use Rattle.steps.specs.Outcome.{Outcome, flatO}
-use Rattle.handles.specs.Handles.{isLive, Filling, readPart}
-use Rattle.files.specs.Files.{isFile}
+use Rattle.slot_rows.specs.Rows.{Row, file, bound, at, isBound, lenOf}
+use Rattle.dir_rows.specs.Dirs.{registered}
+use Rattle.pool_state.specs.declared.Pool.{Pool}
+use Rattle.pool_state.specs.State.{State, bufs, view}
+use Rattle.pool_steps.specs.World.{Lent, lent, viewW, Ready}
+use Rattle.mount_survey.specs.Heads.{Head, absent, claim}
+use Rattle.mount_survey.specs.Staged.{wants}
+use Rattle.pool_steps.specs.Outcome.{Outcome, flatO}
+use Rattle.inner_handle.specs.Handles.{isLive, Filling, readPart}
+use Rattle.inner_open.specs.Files.{isFile}
 use Rattle.calls_gate.specs.declared.Call.the-variants.{Mount, OpenWrite, ReadAt, Rename}
 use Rattle.calls_gate.specs.Table.{slotRows, dirRows, rowsB}
 use Rattle.calls_gate.specs.Replies.{telling, nothing, Came, came}

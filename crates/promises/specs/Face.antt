@@ -8,12 +8,12 @@ use lib.ListN.{length}
 use Rattle.limits.specs.Limits.{maxPath, dirWidth}
 use Rattle.device.specs.declared.Place.{Place}
 use Rattle.device.specs.Device.{dev}
-use Rattle.records.specs.declared.Slot.{Slot}
-use Rattle.records.specs.Records.{numsOf}
-use Rattle.table.specs.declared.Pool.{Pool}
-use Rattle.table.specs.State.{bufs}
-use Rattle.steps.specs.World.{Lent, lent}
-use Rattle.steps.specs.Outcome.{Outcome, None, only}
+use Rattle.slot_records.specs.declared.Slot.{Slot}
+use Rattle.slot_records.specs.Records.{numsOf}
+use Rattle.pool_state.specs.declared.Pool.{Pool}
+use Rattle.pool_state.specs.State.{bufs}
+use Rattle.pool_steps.specs.World.{Lent, lent}
+use Rattle.pool_steps.specs.Outcome.{Outcome, None, only}
 use Rattle.calls_gate.specs.Answers.{numberOf}
 use Rattle.calls_gate.specs.declared.Call.the-variants.{Mount, Adopt}
 use Rattle.calls_gate.specs.Replies.{came}

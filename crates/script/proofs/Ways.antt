@@ -12,19 +12,19 @@ use Rattle.lists.specs.Runs.{tab}
 use Rattle.le.specs.Le.{Bytes}
 use Rattle.device.specs.declared.Geometry.{Geometry}
 use Rattle.device.specs.Device.{dev}
-use Rattle.table.specs.declared.Pool.{Pool}
-use Rattle.table.specs.State.{bufs}
+use Rattle.pool_state.specs.declared.Pool.{Pool}
+use Rattle.pool_state.specs.State.{bufs}
 use Rattle.mount.specs.Mount.{zeroPool}
-use Rattle.steps.specs.World.{Lent, lent}
-use Rattle.writer.specs.Writer.{Shown, shown, pours, poured}
-use Rattle.writer.proofs.InParts.{pours-none, pours-append, pours-all, pours-then}
-use Rattle.reader.specs.declared.Op.{Op}
-use Rattle.reader.specs.declared.Setup.{Setup}
-use Rattle.reader.specs.declared.Span.{Span}
-use Rattle.reader.specs.Format.{noSpan, part, opAt, operations, setupAt, lengthAt, Patching, patching, patchAt, patchedM}
-use Rattle.reader.specs.Reading.{patch-end, Held, Sound, op-sound}
-use Rattle.tables.specs.Tables.{recordShown, deviceShown}
-use Rattle.operate.specs.Operate.{Said, said, opM, Reached, reached, spoken}
+use Rattle.pool_steps.specs.World.{Lent, lent}
+use Rattle.output.specs.Writer.{Shown, shown, pours, poured}
+use Rattle.output.proofs.InParts.{pours-none, pours-append, pours-all, pours-then}
+use Rattle.script_format.specs.declared.Op.{Op}
+use Rattle.script_format.specs.declared.Setup.{Setup}
+use Rattle.script_format.specs.declared.Span.{Span}
+use Rattle.script_format.specs.Format.{noSpan, part, opAt, operations, setupAt, lengthAt, Patching, patching, patchAt, patchedM}
+use Rattle.script_format.specs.Reading.{patch-end, Held, Sound, op-sound}
+use Rattle.script_tables.specs.Tables.{recordShown, deviceShown}
+use Rattle.script_step.specs.Operate.{Said, said, opM, Reached, reached, spoken}
 use Rattle.script.specs.Script.{followed, runM, whole, closed, geometryOf, startPlace, zeros, patchedDevice, startM, ranM, behindSetup, scriptM}
 
 -- ---- operations that are read one by one

@@ -8,15 +8,15 @@ use Rattle.lists.specs.Runs.{tab}
 use Rattle.device.specs.declared.Geometry.{Geometry}
 use Rattle.device.specs.declared.Place.{Place}
 use Rattle.device.specs.Device.{dev}
-use Rattle.table.specs.State.{bufs}
-use Rattle.steps.specs.World.{Lent, lent}
+use Rattle.pool_state.specs.State.{bufs}
+use Rattle.pool_steps.specs.World.{Lent, lent}
 use Rattle.mount.specs.Mount.{zeroPool}
-use Rattle.writer.specs.Writer.{Shown, pours}
-use Rattle.reader.specs.declared.Op.{Op}
-use Rattle.reader.specs.declared.Setup.{Setup}
-use Rattle.reader.specs.Format.{part, operations, setupAt, lengthAt, Patching, patchedM}
-use Rattle.tables.specs.Tables.{recordShown, deviceShown}
-use Rattle.operate.specs.Operate.{Said, said, opM, Reached, reached}
+use Rattle.output.specs.Writer.{Shown, pours}
+use Rattle.script_format.specs.declared.Op.{Op}
+use Rattle.script_format.specs.declared.Setup.{Setup}
+use Rattle.script_format.specs.Format.{part, operations, setupAt, lengthAt, Patching, patchedM}
+use Rattle.script_tables.specs.Tables.{recordShown, deviceShown}
+use Rattle.script_step.specs.Operate.{Said, said, opM, Reached, reached}
 
 -- ---- operations, one after the other
 

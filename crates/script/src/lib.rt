@@ -6,17 +6,17 @@ use device::Place;
 use limits::DIR_WIDTH;
 use limits::MAX_PATH;
 use limits::ROW_WIDTH;
-use operate::Ran;
-use reader::Setup;
-use table::Pool;
+use pool_state::Pool;
+use script_format::Setup;
+use script_step::Ran;
 ghost use mathlib.Core.Path.{_≡_};
 ghost use Prim.Native.Nat.{_*_, _^_, _≤_, _<_};
 ghost use lib.ListN.{length, replicate};
-ghost use Rattle.steps.specs.World.{before, after};
-ghost use Rattle.reader.specs.Format.{operations};
-ghost use Rattle.reader.specs.Reading.{Fine};
-ghost use Rattle.writer.specs.Writer.{shown, pours, poured};
-ghost use Rattle.operate.specs.Operate.{reached, spoken};
+ghost use Rattle.pool_steps.specs.World.{before, after};
+ghost use Rattle.script_format.specs.Format.{operations};
+ghost use Rattle.script_format.specs.Reading.{Fine};
+ghost use Rattle.output.specs.Writer.{shown, pours, poured};
+ghost use Rattle.script_step.specs.Operate.{reached, spoken};
 ghost use Rattle.script.specs.Script.{runM, whole, closed, ranM, patchedDevice, behindSetup, scriptM};
 
 // The operations from `from` on, to the end.
@@ -49,7 +49,7 @@ fn run(
     };
     let mut pos = from;
     loop {
-        let op = reader::op_at(script, pos);
+        let op = script_format::op_at(script, pos);
         let code = op.code;
         if code == 0 {
             return ran;
@@ -57,7 +57,7 @@ fn run(
         let p = ran.place;
         let q = ran.pool;
         let at = ran.at;
-        ran = operate::step(
+        ran = script_step::step(
             bytes,
             phys,
             geometry,
@@ -115,8 +115,8 @@ fn run_all(
     );
     let p = ran.place;
     let q = ran.pool;
-    let a = tables::put_record(nums, names, dirs, q, out, ran.at);
-    let at = tables::put_device(bytes, phys, p, out, a);
+    let a = script_tables::put_record(nums, names, dirs, q, out, ran.at);
+    let at = script_tables::put_device(bytes, phys, p, out, a);
     Ran {
         place: p,
         pool: q,
@@ -214,12 +214,12 @@ fn on_device(script: &[u8], setup: Setup, out: &mut [u8]) -> usize
     let slots = setup.slots;
     let n = slots * setup.size;
     let mut bytes = no_bytes();
-    let run = reader::patch(script, setup.patches, setup.count, &mut bytes[..n]);
+    let run = script_format::patch(script, setup.patches, setup.count, &mut bytes[..n]);
     if !run.whole {
         return 0;
     }
     let mut phys = no_lengths();
-    reader::lengths(script, setup.phys, &mut phys[..slots]);
+    script_format::lengths(script, setup.phys, &mut phys[..slots]);
     on_rows(
         &mut bytes[..n],
         &mut phys[..slots],
@@ -235,7 +235,7 @@ fn on_device(script: &[u8], setup: Setup, out: &mut [u8]) -> usize
 pub fn pool_script(script: &[u8], out: &mut [u8]) -> usize
     ensures { λ r. ⌜ shown (now (out .exit)) r ≡ poured (scriptM (now (script .entry))) (now (out .entry)) ⌝ }
 {
-    let setup = reader::setup_at(script);
+    let setup = script_format::setup_at(script);
     if !setup.whole {
         return 0;
     }

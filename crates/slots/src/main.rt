@@ -6,7 +6,7 @@ use calls_gate::Call;
 use device::Place;
 use libc::STDIN_FILENO;
 use libc::STDOUT_FILENO;
-use table::Pool;
+use pool_state::Pool;
 ghost use mathlib.Core.Path.{_≡_};
 ghost use Prim.Native.Nat.{_+_, _-_, _≤_, _<_, min};
 ghost use lib.ListN.{length, take};
@@ -31,7 +31,7 @@ fn main() {
     let mut nums = [0u64; 16];
     let mut names = name_rows();
     let mut dirs = dir_rows();
-    let mounted = lines::ask(
+    let mounted = line::ask(
         &mut bytes,
         &mut phys,
         Place { at: 0, last: 0 },
@@ -187,7 +187,7 @@ fn next_line(
     let at = run.at;
     let place = run.place;
     let pool = run.pool;
-    let end = commands::run_end(input, at, b'\n');
+    let end = line_words::run_end(input, at, b'\n');
     let held = append(line, run.held, &input[at..end]);
     if end == input.len() {
         return Progress {
@@ -243,7 +243,7 @@ fn reply(
     let place = run.place;
     let pool = run.pool;
     let start = make_room(out, run.used);
-    let said = lines::answer_line(
+    let said = line::answer_line(
         bytes,
         phys,
         place,

@@ -1,8 +1,8 @@
 -- One law for each way out.
 use Rattle.calls_gate.proofs.Tests.{mount-shape, mount-rows, mount-none, bars-record, bars-shape, bars-few, bars-first, bars-second, bars-none}
 use Rattle.device.specs.Device.{dev}
-use Rattle.table.specs.State.{bufs}
-use Rattle.steps.specs.World.{lent}
+use Rattle.pool_state.specs.State.{bufs}
+use Rattle.pool_steps.specs.World.{lent}
 use borrow.Author.Needs.{needs}
 use Rattle.calls_gate.proofs.refusal.Statement.{statement}
 use Rattle.calls_gate.proofs.refusal.Tie as tie

@@ -1,7 +1,7 @@
 -- At a mount all is made zero, else all stays.
 use mathlib.Core.Path.{refl}
 use Rattle.mount.proofs.Mounting.{zeroed}
-use Rattle.table.specs.State.{bufs}
+use Rattle.pool_state.specs.State.{bufs}
 use Rattle.calls_gate.proofs.Tests.{silent-is, refuses-mount, refuses-other}
 use borrow.Author.Needs.{needs}
 use Rattle.calls_gate.proofs.refuse.Statement.{statement}

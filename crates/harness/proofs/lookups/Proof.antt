@@ -2,8 +2,8 @@
 use native.Mathlib.Omega.{arith}
 use Prim.Native.Nat.{_-_, _≤_}
 use mathlib.Core.Path.{_≡_, refl, sym, ap, _∙_}
-use Rattle.table.specs.State.{bufs, view}
-use Rattle.files.specs.declared.Reader.{Reader}
+use Rattle.pool_state.specs.State.{bufs, view}
+use Rattle.inner_open.specs.declared.Reader.{Reader}
 use Rattle.harness.specs.Calls.{hits}
 use Rattle.harness.proofs.Ways.{hits-all, hits-fail, hits-start}
 use Rattle.harness.proofs.lookups.Statement.{statement}

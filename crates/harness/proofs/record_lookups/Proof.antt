@@ -2,7 +2,7 @@
 use mathlib.Core.Path.{_≡_, refl, sym, _∙_}
 use mathlib.Core.Bool.{true, false}
 use borrow.Author.Needs.{needs}
-use Rattle.admit.proofs.Exactly.{pool-exactly}
+use Rattle.pool_test.proofs.Exactly.{pool-exactly}
 use Rattle.harness.proofs.Ways.{lookups-said}
 use Rattle.harness.proofs.record_lookups.Statement.{statement}
 use Rattle.harness.proofs.record_lookups.Tie as tie

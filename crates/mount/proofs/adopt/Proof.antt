@@ -1,9 +1,9 @@
 -- One law for each way out: `twelve-rows`, `twelve-slots`, `ten`, `refused`, `adopted`.
 use mathlib.Core.Path.{sym, _∙_}
 use Rattle.device.specs.Device.{dev}
-use Rattle.table.specs.State.{bufs}
-use Rattle.table.specs.InBuffers.{pool-rows}
-use Rattle.steps.specs.World.{lent}
+use Rattle.pool_state.specs.State.{bufs}
+use Rattle.pool_state.specs.InBuffers.{pool-rows}
+use Rattle.pool_steps.specs.World.{lent}
 use Rattle.mount.proofs.Adopting.{twelve-rows, twelve-slots, stage-fits, ten, find-fits, accept-fits, refused, install-fits, drain-fits, adopted}
 use native.Mathlib.Omega.{arith}
 use borrow.Author.Needs.{needs}

@@ -4,8 +4,8 @@ use mathlib.Core.Path.{_≡_, refl, sym, _∙_}
 use lib.ListN.{length, take}
 use borrow.Author.Needs.{needs}
 use Rattle.device.specs.Device.{dev}
-use Rattle.table.specs.State.{bufs}
-use Rattle.steps.specs.World.{lent, viewW}
+use Rattle.pool_state.specs.State.{bufs}
+use Rattle.pool_steps.specs.World.{lent, viewW}
 use Rattle.mount.proofs.Draining.{Draining, draining-start, draining-first, draining-more, draining-done}
 use native.Mathlib.Omega.{arith}
 use Rattle.mount.proofs.drain.Statement.{statement}

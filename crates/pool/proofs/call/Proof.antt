@@ -34,9 +34,9 @@ use denote.Triple.Spec.{Meets, tripleOf}
 use denote.Triple.Table.{entered, cited}
 use denote.Triple.Walked.{Stays, stay-dropped, stay-ref, gave-slice, walkOf, goes-dropped, goes-ref, goes-gave-slice, walked, walk-meets}
 use denote.Exit.{yes}
-use Rattle.walk.proofs.Calls.{calls-to, a-struct}
-use Rattle.walk.proofs.Facts.{ends, shows-both}
-use Rattle.walk.proofs.Record.{taken, put-back}
+use Rattle.byhand.proofs.Calls.{calls-to, a-struct}
+use Rattle.byhand.proofs.Facts.{ends, shows-both}
+use Rattle.byhand.proofs.Record.{taken, put-back}
 use Rattle.device.specs.declared.Geometry.{Geometry}
 use Rattle.device.specs.declared.Place.{Place}
 use Rattle.device.specs.Device.{dev}
@@ -44,14 +44,14 @@ use Rattle.device.proofs.Geometry as G
 use Rattle.device.proofs.Geometry.Laws as G′
 use Rattle.device.proofs.Place as P
 use Rattle.device.proofs.Place.Laws as P′
-use Rattle.records.specs.declared.Slot.{Slot}
-use Rattle.records.specs.Records.{numsOf}
-use Rattle.records.proofs.Parts.{slotT}
-use Rattle.table.specs.declared.Pool.{Pool}
-use Rattle.table.specs.State.{bufs}
-use Rattle.table.proofs.Pool as Po
-use Rattle.table.proofs.Pool.Laws as Po′
-use Rattle.steps.specs.World.{lent}
+use Rattle.slot_records.specs.declared.Slot.{Slot}
+use Rattle.slot_records.specs.Records.{numsOf}
+use Rattle.slot_records.proofs.Parts.{slotT}
+use Rattle.pool_state.specs.declared.Pool.{Pool}
+use Rattle.pool_state.specs.State.{bufs}
+use Rattle.pool_state.proofs.Pool as Po
+use Rattle.pool_state.proofs.Pool.Laws as Po′
+use Rattle.pool_steps.specs.World.{lent}
 use Rattle.calls_gate.specs.declared.Call.{Call}
 use Rattle.calls_gate.specs.declared.Reply.{Reply}
 use Rattle.calls_gate.specs.Replies.{replied}
@@ -60,7 +60,7 @@ use Rattle.calls_gate.proofs.Call as Ca
 use Rattle.calls_gate.proofs.Call.Laws as Ca′
 use Rattle.calls_gate.proofs.Reply as Re
 use Rattle.calls_gate.proofs.Reply.Laws as Re′
-use Rattle.places.proofs.Parts.{geometryT, geometryV, placeT, placeV}
+use Rattle.device_lent.proofs.Parts.{geometryT, geometryV, placeT, placeV}
 use Rattle.pool.proofs.Parts.{poolT, poolV, callT, callV, replyT, replyV, a-call}
 use Rattle.pool.proofs.enter as inner
 use Rattle.pool.proofs.enter.Symbol as inner-def

@@ -44,10 +44,10 @@ use denote.Triple.Table.{entered, cited}
 use denote.Triple.Walked.{Stays, stay-dropped, gave-slice, walkOf, goes-dropped, goes-gave-slice, walked, walk-meets}
 use denote.Exit.{yes}
 use Rattle.limits.specs.Limits.{rowWidth}
-use Rattle.walk.proofs.Calls.{ty, calls-to, a-number, a-struct}
-use Rattle.walk.proofs.Facts.{ends, heard-both}
-use Rattle.walk.proofs.Array.{lent-array, returned-array}
-use Rattle.walk.proofs.Lend.{anew, share, unshare, given-up}
+use Rattle.byhand.proofs.Calls.{ty, calls-to, a-number, a-struct}
+use Rattle.byhand.proofs.Facts.{ends, heard-both}
+use Rattle.byhand.proofs.Array.{lent-array, returned-array}
+use Rattle.byhand.proofs.Lend.{anew, share, unshare, given-up}
 use Rattle.device.specs.declared.Geometry.{Geometry}
 use Rattle.device.specs.declared.Place.{Place}
 use Rattle.device.specs.Device.{dev}
@@ -55,26 +55,26 @@ use Rattle.device.proofs.Geometry as G
 use Rattle.device.proofs.Geometry.Laws as G′
 use Rattle.device.proofs.Place as P
 use Rattle.device.proofs.Place.Laws as P′
-use Rattle.records.specs.declared.Slot.{Slot}
-use Rattle.records.specs.Records.{numsOf, flatOf, stored, cleared}
-use Rattle.records.proofs.Parts.{slotT, numsT, numsVs, numsV, nums-tells, nums-room, a-nums}
-use Rattle.records.proofs.flat as load′
-use Rattle.records.proofs.flat.Symbol as load-def
-use Rattle.records.proofs.flat.Symbol.{name as #records·flat}
-use Rattle.records.proofs.flat.Met as load-thm
-use Rattle.records.proofs.keep as keep′
-use Rattle.records.proofs.keep.Symbol as keep-def
-use Rattle.records.proofs.keep.Symbol.{name as #records·keep}
-use Rattle.records.proofs.keep.Met as keep-thm
-use Rattle.records.proofs.clear as clear
-use Rattle.records.proofs.clear.Symbol as clear-def
-use Rattle.records.proofs.clear.Symbol.{name as #records·clear}
-use Rattle.records.proofs.clear.Met as clear-thm
-use Rattle.table.specs.declared.Pool.{Pool}
-use Rattle.table.specs.State.{bufs}
-use Rattle.table.proofs.Pool as Po
-use Rattle.table.proofs.Pool.Laws as Po′
-use Rattle.steps.specs.World.{lent}
+use Rattle.slot_records.specs.declared.Slot.{Slot}
+use Rattle.slot_records.specs.Records.{numsOf, flatOf, stored, cleared}
+use Rattle.slot_records.proofs.Parts.{slotT, numsT, numsVs, numsV, nums-tells, nums-room, a-nums}
+use Rattle.slot_records.proofs.flat as load′
+use Rattle.slot_records.proofs.flat.Symbol as load-def
+use Rattle.slot_records.proofs.flat.Symbol.{name as #slot-records·flat}
+use Rattle.slot_records.proofs.flat.Met as load-thm
+use Rattle.slot_records.proofs.keep as keep′
+use Rattle.slot_records.proofs.keep.Symbol as keep-def
+use Rattle.slot_records.proofs.keep.Symbol.{name as #slot-records·keep}
+use Rattle.slot_records.proofs.keep.Met as keep-thm
+use Rattle.slot_records.proofs.clear as clear
+use Rattle.slot_records.proofs.clear.Symbol as clear-def
+use Rattle.slot_records.proofs.clear.Symbol.{name as #slot-records·clear}
+use Rattle.slot_records.proofs.clear.Met as clear-thm
+use Rattle.pool_state.specs.declared.Pool.{Pool}
+use Rattle.pool_state.specs.State.{bufs}
+use Rattle.pool_state.proofs.Pool as Po
+use Rattle.pool_state.proofs.Pool.Laws as Po′
+use Rattle.pool_steps.specs.World.{lent}
 use Rattle.mount.specs.Mount.{zeroPool}
 use Rattle.calls_gate.specs.declared.Answer.the-variants.{NotPool, WrongShape}
 use Rattle.calls_gate.specs.Table.{zeroed, takesOf}
@@ -86,7 +86,7 @@ use Rattle.calls_gate.proofs.Call as Ca
 use Rattle.calls_gate.proofs.Call.Laws as Ca′
 use Rattle.calls_gate.proofs.Reply as Re
 use Rattle.calls_gate.proofs.Reply.Laws as Re′
-use Rattle.places.proofs.Parts.{geometryT, geometryV, placeT, placeV}
+use Rattle.device_lent.proofs.Parts.{geometryT, geometryV, placeT, placeV}
 use Rattle.pool.proofs.Parts.{poolT, poolV, callT, callV, replyT, replyV, a-call}
 use Rattle.pool.proofs.Ways.{lost-fits, few-rows, many-rows-are}
 use Rattle.pool.proofs.lost as lost
@@ -274,11 +274,11 @@ module _ {M : Type 1} (𝓤 : URA M) (H : Heap 𝓤) (A : Atoms 𝓤) (W : Given
 
   module _ (C : Calls 𝓤 H) (Λ : Loops 𝓤 H) (fm : FmC 𝓤 H (W .laws) C)
       (loses : Meets 𝓤 H A lost.signature (C #pool·lost) (lost.spec 𝓤 H A at-mem run))
-      (clears : Meets 𝓤 H A clear.signature (C #records·clear) (clear.spec 𝓤 H A at-mem run))
+      (clears : Meets 𝓤 H A clear.signature (C #slot-records·clear) (clear.spec 𝓤 H A at-mem run))
       (replies : Meets 𝓤 H A many.signature (C #pool·too-many) (many.spec 𝓤 H A at-mem run))
-      (loads : Meets 𝓤 H A load′.signature (C #records·flat) (load′.spec 𝓤 H A at-mem run))
+      (loads : Meets 𝓤 H A load′.signature (C #slot-records·flat) (load′.spec 𝓤 H A at-mem run))
       (fronts : Meets 𝓤 H A front.signature (C #pool·on-front) (front.spec 𝓤 H A at-mem run))
-      (keeps : Meets 𝓤 H A keep′.signature (C #records·keep) (keep′.spec 𝓤 H A at-mem run)) (l0 l1 l2 l3 l4 l5 l6 l7 l8 l9 l10 l11 l12 l13 l14 l15 l16 l17 l18 l19 l20 l21 l22 l23 l24 l25 l26 l27 l28 l29 l30 l31 l32 l33 l34 l35 l36 l37 l38 l39 l40 l41 l42 l43 : ℕ) where
+      (keeps : Meets 𝓤 H A keep′.signature (C #slot-records·keep) (keep′.spec 𝓤 H A at-mem run)) (l0 l1 l2 l3 l4 l5 l6 l7 l8 l9 l10 l11 l12 l13 l14 l15 l16 l17 l18 l19 l20 l21 l22 l23 l24 l25 l26 l27 l28 l29 l30 l31 l32 l33 l34 l35 l36 l37 l38 l39 l40 l41 l42 l43 : ℕ) where
     abbrev En : Env 𝓤 H
     En = (τ 0, l0) ∷ (τ 1, l1) ∷ (τ 2, l2) ∷ (τ 3, l3) ∷ (τ 4, l4) ∷ (τ 5, l5) ∷ (τ 6, l6) ∷ (τ 7, l7) ∷ (τ 8, l8) ∷ (τ 9, l9) ∷ (τ 10, l10) ∷ (τ 11, l11) ∷ (τ 12, l12) ∷ (τ 13, l13) ∷ (τ 14, l14) ∷ (τ 15, l15) ∷ (τ 16, l16) ∷ (τ 17, l17) ∷ (τ 18, l18) ∷ (τ 19, l19) ∷ (τ 20, l20) ∷ (τ 21, l21) ∷ (τ 22, l22) ∷ (τ 23, l23) ∷ (τ 24, l24) ∷ (τ 25, l25) ∷ (τ 26, l26) ∷ (τ 27, l27) ∷ (τ 28, l28) ∷ (τ 29, l29) ∷ (τ 30, l30) ∷ (τ 31, l31) ∷ (τ 32, l32) ∷ (τ 33, l33) ∷ (τ 34, l34) ∷ (τ 35, l35) ∷ (τ 36, l36) ∷ (τ 37, l37) ∷ (τ 38, l38) ∷ (τ 39, l39) ∷ (τ 40, l40) ∷ (τ 41, l41) ∷ (τ 42, l42) ∷ (τ 43, l43) ∷ []
 
@@ -420,11 +420,11 @@ module _ {M : Type 1} (𝓤 : URA M) (H : Heap 𝓤) (A : Atoms 𝓤) (W : Given
 
   walk : (C : Calls 𝓤 H) (Λ : Loops 𝓤 H) → FmC 𝓤 H (W .laws) C
       → Meets 𝓤 H A lost.signature (C #pool·lost) (lost.spec 𝓤 H A at-mem run)
-      → Meets 𝓤 H A clear.signature (C #records·clear) (clear.spec 𝓤 H A at-mem run)
+      → Meets 𝓤 H A clear.signature (C #slot-records·clear) (clear.spec 𝓤 H A at-mem run)
       → Meets 𝓤 H A many.signature (C #pool·too-many) (many.spec 𝓤 H A at-mem run)
-      → Meets 𝓤 H A load′.signature (C #records·flat) (load′.spec 𝓤 H A at-mem run)
+      → Meets 𝓤 H A load′.signature (C #slot-records·flat) (load′.spec 𝓤 H A at-mem run)
       → Meets 𝓤 H A front.signature (C #pool·on-front) (front.spec 𝓤 H A at-mem run)
-      → Meets 𝓤 H A keep′.signature (C #records·keep) (keep′.spec 𝓤 H A at-mem run)
+      → Meets 𝓤 H A keep′.signature (C #slot-records·keep) (keep′.spec 𝓤 H A at-mem run)
       → ent 𝓤 (onEntry 𝓤 H A outer.signature κs qs a vals) (WpFn 𝓤 H C Λ code.function (flat (typesAt (outer.signature .params) κs) vals) Post)
   walk C Λ fm loses clears replies loads fronts keeps =
       qed W ((‵ (flft (κs .0) (qs .0)) ⊛ (‵ (flft (κs .1 .0) (qs .1 .0)) ⊛ (‵ (flft (κs .1 .1 .0) (qs .1 .1 .0)) ⊛ (‵ (flft (κs .1 .1 .1 .0) (qs .1 .1 .1 .0)) ⊛ (‵ (flft (κs .1 .1 .1 .1 .0) (qs .1 .1 .1 .1 .0)) ⊛ (‵ (flft (κs .1 .1 .1 .1 .1 .0) (qs .1 .1 .1 .1 .1 .0)) ⊛ (‵ (flft (κs .1 .1 .1 .1 .1 .1 .0) (qs .1 .1 .1 .1 .1 .1 .0)) ⊛ (‵ (flft (κs .1 .1 .1 .1 .1 .1 .1 .0) (qs .1 .1 .1 .1 .1 .1 .1 .0)) ⊛ (‵ (flft (κs .1 .1 .1 .1 .1 .1 .1 .1 .0) (qs .1 .1 .1 .1 .1 .1 .1 .1 .0)) ⊛ ‵ ftrue))))))))) ∷ ‵ (owns (typesAt (outer.signature .params) κs) a vals) ∷ []) ∵ enter ! C Λ code.function _ _ $
@@ -458,8 +458,8 @@ enter-spec 𝓤 H 𝓜 𝓖 𝓡 =
     (walked 𝓤 H A outer.ended stayed c (WpFn 𝓤 H (𝓣 .C) (𝓣 .Λ) code.function) spelled (λ κs. (mut-slice-tells (named 0) (κs .0) u8, (mut-slice-tells (named 1) (κs .1 .0) u64, (LL.tells G.the-type G′.the-laws, (shr-slice-tells (named 2) (κs .1 .1 .0) u8, (LL.tells P.the-type P′.the-laws, (mut-slice-tells (named 3) (κs .1 .1 .1 .0) slotT, (mut-slice-tells (named 4) (κs .1 .1 .1 .1 .0) u8, (mut-slice-tells (named 5) (κs .1 .1 .1 .1 .1 .0) u8, (LL.tells Po.the-type Po′.the-laws, (EL.tells Ca.the-type Ca′.the-laws, (shr-slice-tells (named 6) (κs .1 .1 .1 .1 .1 .1 .0) u8, (shr-slice-tells (named 7) (κs .1 .1 .1 .1 .1 .1 .1 .0) u8, (mut-slice-tells (named 8) (κs .1 .1 .1 .1 .1 .1 .1 .1 .0) u8, tt))))))))))))))
     (λ κs qs bounds a _ are. via 𝓤 _ (fst∗ 𝓤 _ (emp 𝓤)) (walk 𝓤 H A W (𝓜 .mem) (𝓡 .run) κs qs bounds a are (𝓣 .C) (𝓣 .Λ) (fmOf 𝓤 H (W .laws) 𝓣)
     (cited 𝓤 H (tripleOf 𝓤 H A lost.signature (lost.spec 𝓤 H A (𝓜 .mem) (𝓡 .run))) 𝓜 𝓡 code.env #pool·lost lost-def.routine code.calls-pool·lost (lost-thm.met 𝓤 H 𝓜 𝓖 𝓡))
-    (cited 𝓤 H (tripleOf 𝓤 H A clear.signature (clear.spec 𝓤 H A (𝓜 .mem) (𝓡 .run))) 𝓜 𝓡 code.env #records·clear clear-def.routine code.calls-records·clear (clear-thm.met 𝓤 H 𝓜 𝓖 𝓡))
+    (cited 𝓤 H (tripleOf 𝓤 H A clear.signature (clear.spec 𝓤 H A (𝓜 .mem) (𝓡 .run))) 𝓜 𝓡 code.env #slot-records·clear clear-def.routine code.calls-slot-records·clear (clear-thm.met 𝓤 H 𝓜 𝓖 𝓡))
     (cited 𝓤 H (tripleOf 𝓤 H A many.signature (many.spec 𝓤 H A (𝓜 .mem) (𝓡 .run))) 𝓜 𝓡 code.env #pool·too-many many-def.routine code.calls-pool·too-many (many-thm.met 𝓤 H 𝓜 𝓖 𝓡))
-    (cited 𝓤 H (tripleOf 𝓤 H A load′.signature (load′.spec 𝓤 H A (𝓜 .mem) (𝓡 .run))) 𝓜 𝓡 code.env #records·flat load-def.routine code.calls-records·flat (load-thm.met 𝓤 H 𝓜 𝓖 𝓡))
+    (cited 𝓤 H (tripleOf 𝓤 H A load′.signature (load′.spec 𝓤 H A (𝓜 .mem) (𝓡 .run))) 𝓜 𝓡 code.env #slot-records·flat load-def.routine code.calls-slot-records·flat (load-thm.met 𝓤 H 𝓜 𝓖 𝓡))
     (cited 𝓤 H (tripleOf 𝓤 H A front.signature (front.spec 𝓤 H A (𝓜 .mem) (𝓡 .run))) 𝓜 𝓡 code.env #pool·on-front front-def.routine code.calls-pool·on-front (front-thm.met 𝓤 H 𝓜 𝓖 𝓡))
-    (cited 𝓤 H (tripleOf 𝓤 H A keep′.signature (keep′.spec 𝓤 H A (𝓜 .mem) (𝓡 .run))) 𝓜 𝓡 code.env #records·keep keep-def.routine code.calls-records·keep (keep-thm.met 𝓤 H 𝓜 𝓖 𝓡))))))
+    (cited 𝓤 H (tripleOf 𝓤 H A keep′.signature (keep′.spec 𝓤 H A (𝓜 .mem) (𝓡 .run))) 𝓜 𝓡 code.env #slot-records·keep keep-def.routine code.calls-slot-records·keep (keep-thm.met 𝓤 H 𝓜 𝓖 𝓡))))))

@@ -6,8 +6,8 @@ use lib.ListN.{length, take, drop}
 use lib.Seq.{length-take-le, length-front}
 use borrow.Author.Tests.{not-true, not-false}
 use Rattle.limits.specs.Limits.{rowWidth}
-use Rattle.writer.specs.Writer.{shown, pours}
-use Rattle.operate.proofs.Ways.{fresh-front, fresh-length}
+use Rattle.output.specs.Writer.{shown, pours}
+use Rattle.script_step.proofs.Ways.{fresh-front, fresh-length}
 use Rattle.script.specs.Script.{whole, ranM}
 use Rattle.script.proofs.Ways.{device-none, device-run, starts-inside, front-back}
 use native.Mathlib.Omega.{arith}
@@ -16,8 +16,8 @@ use Rattle.script.proofs.on_device.Statement.{statement}
 use Rattle.script.proofs.on_device.Tie as tie
 use Rattle.script.proofs.on_device.Reads as reads
 use Rattle.script.proofs.on_device.Lts as lts
-use Rattle.reader.proofs.lengths.Reads as lengths-reads
-use Rattle.reader.proofs.patch.Reads as patch-reads
+use Rattle.script_format.proofs.lengths.Reads as lengths-reads
+use Rattle.script_format.proofs.patch.Reads as patch-reads
 use Rattle.script.proofs.no_bytes.Reads as no-bytes-reads
 use Rattle.script.proofs.no_lengths.Reads as no-lengths-reads
 use Rattle.script.proofs.on_rows.Reads as on-rows-reads

@@ -4,9 +4,9 @@ use Prim.Native.Nat.{_*_, _≤_}
 use lib.ListN.{length, take}
 use lib.Seq.{length-take-le}
 use Rattle.limits.specs.Limits.{maxPath, rowWidth, dirWidth}
-use Rattle.writer.specs.Writer.{shown}
-use Rattle.operate.specs.Operate.{Said}
-use Rattle.operate.proofs.Ways.{fresh-front, fresh-length}
+use Rattle.output.specs.Writer.{shown}
+use Rattle.script_step.specs.Operate.{Said}
+use Rattle.script_step.proofs.Ways.{fresh-front, fresh-length}
 use Rattle.script.specs.Script.{closed}
 use Rattle.script.proofs.Ways.{closed-parts, rows-are}
 use native.Mathlib.Omega.{arith}

@@ -1,15 +1,15 @@
 -- One law for each way out: `script-none`, `script-is`.
 use mathlib.Core.Path.{_∙_, _≡_, ap, sym, subst}
 use borrow.Author.Tests.{not-true, not-false}
-use Rattle.reader.specs.declared.Setup.{Setup}
-use Rattle.reader.specs.Reading.{Fine, setup-fine}
+use Rattle.script_format.specs.declared.Setup.{Setup}
+use Rattle.script_format.specs.Reading.{Fine, setup-fine}
 use Rattle.script.proofs.Ways.{script-none, script-is}
 use borrow.Author.Needs.{needs}
 use Rattle.script.proofs.pool_script.Statement.{statement}
 use Rattle.script.proofs.pool_script.Tie as tie
 use Rattle.script.proofs.pool_script.Reads as reads
 use Rattle.script.proofs.pool_script.Lts as lts
-use Rattle.reader.proofs.setup_at.Reads as setup-at-reads
+use Rattle.script_format.proofs.setup_at.Reads as setup-at-reads
 use Rattle.script.proofs.on_device.Reads as on-device-reads
 
 setup-at-requires : tie.Need-setup-at-requires

@@ -3,17 +3,17 @@ use mathlib.Core.Path.{_∙_, _≡_, refl}
 use Prim.Native.Nat.{_-_}
 use lib.ListN.{length}
 use Rattle.device.specs.Device.{dev}
-use Rattle.table.specs.State.{bufs}
-use Rattle.steps.specs.World.{lent}
-use Rattle.writer.specs.Writer.{shown}
+use Rattle.pool_state.specs.State.{bufs}
+use Rattle.pool_steps.specs.World.{lent}
+use Rattle.output.specs.Writer.{shown}
 use Rattle.script.proofs.Ways.{Going, sound-of, going-start, going-end, going-on}
 use native.Mathlib.Omega.{arith}
 use Rattle.script.proofs.run.Statement.{statement}
 use Rattle.script.proofs.run.Tie as tie
 use Rattle.script.proofs.run.Reads as reads
 use Rattle.script.proofs.run.Lts as lts
-use Rattle.operate.proofs.step.Reads as step-reads
-use Rattle.reader.proofs.op_at.Reads as op-at-reads
+use Rattle.script_step.proofs.step.Reads as step-reads
+use Rattle.script_format.proofs.op_at.Reads as op-at-reads
 
 abbrev Inv-loop : tie.InvT-loop
 Inv-loop bytes₀ phys₀ geometry plan nums₀ names₀ dirs₀ script from out₀ ran₀ pos₀ bytes phys nums names dirs out ran pos = (length bytes ≡ length bytes₀) × (length phys ≡ length phys₀) × (length nums ≡ length nums₀) × (length names ≡ length names₀) × (length dirs ≡ length dirs₀) × (length out ≡ length out₀) × Going script plan geometry from (lent (dev bytes₀ phys₀ (ran₀ .place)) (bufs (ran₀ .pool) nums₀ names₀ dirs₀)) (shown out₀ 0) pos (lent (dev bytes phys (ran .place)) (bufs (ran .pool) nums names dirs)) (shown out (ran .at))

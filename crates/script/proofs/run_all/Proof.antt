@@ -7,8 +7,8 @@ use Rattle.script.proofs.run_all.Tie as tie
 use Rattle.script.proofs.run_all.Reads as reads
 use Rattle.script.proofs.run_all.Lts as lts
 use Rattle.script.proofs.run.Reads as run-reads
-use Rattle.tables.proofs.put_device.Reads as put-device-reads
-use Rattle.tables.proofs.put_record.Reads as put-record-reads
+use Rattle.script_tables.proofs.put_device.Reads as put-device-reads
+use Rattle.script_tables.proofs.put_record.Reads as put-record-reads
 
 run-requires : tie.Need-run-requires
 run-requires c κs = search needs

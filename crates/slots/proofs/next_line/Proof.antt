@@ -1,7 +1,7 @@
 -- The line's end lies in the block, behind its start: `run-fits`.
 use native.Mathlib.Omega.{arith}
 use lib.ListN.{drop, length-drop}
-use Rattle.commands.proofs.WordByWord.{run-fits}
+use Rattle.line_words.proofs.WordByWord.{run-fits}
 use borrow.Author.Needs.{needs}
 use Rattle.slots.proofs.next_line.Statement.{statement}
 use Rattle.slots.proofs.next_line.Tie as tie
