@@ -86,7 +86,10 @@ pub fn put_dir(dirs: &mut [u8], cap: usize, m: usize, p: &[u8])
 // Adds the ancestors of p that are in no row yet, nearest first, and gives the new count. The Rust stops at the first that it finds;
 // all are looked for here, which gives the same directories (specs/Laws.antt, `stops-early-same`) and needs nothing of the rows.
 pub fn register_ancestors(dirs: &mut [u8], cap: usize, m: usize, p: &[u8]) -> usize
-    requires { ⌜ FlatDirs cap m (now dirs) × (length (registered (dirsOf (now dirs) m) (now p)) ≤ cap) × (length (normal (now p)) ≤ maxPath) ⌝ }
+    requires { ⌜
+        FlatDirs cap m (now dirs)
+        × (length (registered (dirsOf (now dirs) m) (now p)) ≤ cap)
+        × (length (normal (now p)) ≤ maxPath) ⌝ }
     ensures rows { λ r. ⌜ dirsOf (now (dirs .exit)) r ≡ registered (dirsOf (now (dirs .entry)) m) (now (p .entry)) ⌝ }
     ensures flat { λ r. ⌜ FlatDirs cap r (now (dirs .exit)) ⌝ }
 {

@@ -31,7 +31,7 @@ use Rattle.mount_install.proofs.StagedRows.{queuedAll, push-all}
 use Rattle.mount_survey.specs.Heads.{Head, Reads, readsM}
 use Rattle.mount_survey.specs.Survey.{Survey, survey, scan}
 use Rattle.mount_survey.specs.Claims.{rowOf, askedOf, losersOf}
-use Rattle.mount_survey.proofs.Losers.{scan-losers}
+use Rattle.mount_survey.proofs.LostClaims.{scan-losers}
 use Rattle.mount.specs.Mount.{begin, installed, drain, Due, moved, settle, afterReads, tooMany, adoptM}
 use Rattle.mount.proofs.SurveyKeeps.{reads-fine, Keeps}
 use Rattle.mount.proofs.Stays.{room-for, scanned, installed-fit, losers-due}

@@ -20,7 +20,7 @@ use Rattle.slot_rows.proofs.InBuffers.{name-part}
 use Rattle.slot_rows.proofs.Finding.{holds-unbound, holds-path, find-holds, find-le, find-is, find-absent}
 use Rattle.mount_survey.specs.Survey.{Survey, survey, claimRow, rival, meet, step, scan}
 use Rattle.mount_survey.specs.Claims.{rowOf, claimOf, losersOf, left, live, beaten, loserOf}
-use Rattle.mount_survey.proofs.Losers.{Alike, held-inside, snoc-alike, scan-alike}
+use Rattle.mount_survey.proofs.LostClaims.{Alike, held-inside, snoc-alike, scan-alike}
 
 -- ---- rows with marks
 

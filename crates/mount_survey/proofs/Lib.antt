@@ -7,6 +7,6 @@ pub mod Staging
 -- What the headers' claims are: text of at most 480 bytes, and not empty. 01, "The header block" and "Mount, adopt".
 pub mod Fits
 -- Who loses depends on who holds which path under which generation, and on nothing else.
-pub mod Losers
+pub mod LostClaims
 -- What a survey comes to. v is the survey of the heads hs on top of the rows rs, the directories ds and the counter c.
 pub mod Surveyed

@@ -23,7 +23,7 @@ use Rattle.dir_rows.specs.Dirs as Dirs
 use Rattle.mount_survey.specs.Heads.{Head, absent, idle, claim}
 use Rattle.mount_survey.specs.Survey.{Survey, survey, claimRow, enter, rival, meet, step, scan}
 use Rattle.mount_survey.specs.Claims.{rowOf, asks, askedOf}
-use Rattle.mount_survey.proofs.Losers.{held-inside}
+use Rattle.mount_survey.proofs.LostClaims.{held-inside}
 use Rattle.mount_survey.specs.Staged.{vacated, spares, claimed, wants, wantedOf}
 
 abbrev blank : Row

@@ -1,7 +1,7 @@
 -- The test says exactly what a pool is.
 use Prim.Native.Nat.{ℕ, zero, suc, _+_, _-_, _≤_, _<_}
 use mathlib.Core.Path.{_≡_, refl, sym, ap, _∙_, subst}
-use mathlib.Core.Logic.{_⊎_, inl, inr, ⊎-elim, _↔_}
+use mathlib.Core.Logic.{_⊎_, inl, inr, ⊎-elim}
 use mathlib.Core.List.{List, [], _∷_, List·Memᴰ·head, List·Memᴰ·tail, List·Memᴰ·not-nil, List·Memᴰ·cases-cons, Memᴰ·cast}
 use mathlib.Core.Bool.{Bool, true, false, not, cond, false≢true}
 use native.Mathlib.Omega.{arith}
@@ -29,7 +29,7 @@ use Rattle.dir_rows.proofs.InBuffer.{length-dirs, dirs-short}
 use Rattle.pool_state.specs.State.{State, Valid, Bufs, queueOf, view, poolOf, flat, IsPool}
 use Rattle.pool_state.specs.InBuffers.{pool-dirs}
 use Rattle.pool_state.specs.Reads.{pool-reads}
-use Rattle.pool_test.specs.Test.{sizesOk, restOk, firstOk, rowOk, isAt, hasNum, cellOk, firstHeld, upHeld, dirOk, fitsOk, viewOk, isPool}
+use Rattle.pool_test.specs.Test.{sizesOk, restOk, firstOk, rowOk, isAt, hasNum, cellOk, firstHeld, upHeld, dirOk, fitsOk, viewOk, isPool, PoolExactly}
 use Rattle.pool_test.proofs.FlatForms.{both, and-of, below, sized, sized-tested, zero-part, fit-rows, row-tested, fit-dirs, dir-tested, fit-queue}
 
 -- ---- rows apart
@@ -331,5 +331,5 @@ pool-tested b P =
     (all-intro _ 0 (q .dirs) (λ j p h. dir-passes (b .dirs) (q .dirs) j (P .valid .directories .dirs) (omega arith)))))))
 
 -- The test says exactly what a pool is.
-pub pool-exactly : (b : Bufs) → isPool b ≡ true ↔ IsPool b
+pub pool-exactly : PoolExactly
 pool-exactly b = (is-pool-of b, pool-tested b)

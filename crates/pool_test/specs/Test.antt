@@ -1,6 +1,8 @@
 -- Whether lent buffers are a pool (01, "A pool"), as a test: sizes first, then that the buffers hold nothing but their view, then what the view
--- says. That it is right is `pool-exactly` of Pools.antt.
+-- says. That it is right is `PoolExactly`, at the end.
 use Prim.Native.Nat.{ℕ, _+_, _-_, _*_, _^_}
+use mathlib.Core.Path.{_≡_}
+use mathlib.Core.Logic.{_↔_}
 use mathlib.Core.List.{List, [], _∷_}
 use mathlib.Core.Bool.{Bool, true, not, cond, _&&_}
 use lib.Dec.{eqb, ltb, leb}
@@ -16,7 +18,7 @@ use Rattle.slot_rows.specs.Rows.{Row, at, isBound, pathOf, genOf, find, rowsOf}
 use Rattle.dir_rows.specs.Dirs.{hasPath}
 use Rattle.dir_rows.specs.Rows.{dirAt, dirsOf}
 use Rattle.pool_state.specs.declared.Pool.{Pool}
-use Rattle.pool_state.specs.State.{Bufs}
+use Rattle.pool_state.specs.State.{Bufs, IsPool}
 
 -- ---- sizes
 
@@ -112,3 +114,7 @@ viewOk b =
 
 unfoldable pub isPool : Bufs → Bool
 isPool b = sizesOk (b .pool) (length (b .nums)) (length (b .names)) (length (b .dirs)) && (restOk b && (fitsOk b && viewOk b))
+
+-- The test says exactly what a pool is, for any record and any buffers (`pool-exactly`, proofs/Exactly.antt).
+abbrev pub PoolExactly : Type 0
+PoolExactly = (b : Bufs) → isPool b ≡ true ↔ IsPool b

@@ -453,7 +453,11 @@ fn has_near(dirs: &[u8], keys: &[u32], m: usize, j: usize, p: &[u8]) -> bool
 
 // Whether a directory before j, whose path is p, is the same bytes.
 fn seen_before(dirs: &[u8], keys: &[u32], m: usize, j: usize, p: &[u8]) -> bool
-    requires { ⌜ (m * dirWidth ≤ length (now dirs)) × Keys textKey (dirAt (now dirs)) m (now keys) × (j < m) × (now p ≡ dirAt (now dirs) j) ⌝ }
+    requires { ⌜
+        (m * dirWidth ≤ length (now dirs))
+        × Keys textKey (dirAt (now dirs)) m (now keys)
+        × (j < m)
+        × (now p ≡ dirAt (now dirs) j) ⌝ }
     ensures { λ r. ⌜ r ≡ hasDir (now (dirs .entry)) j (now (p .entry)) ⌝ }
 {
     if !has_key(keys, j, keys[j]) {
@@ -481,7 +485,11 @@ fn tail_at(x: &[u8], e: usize) -> usize
 
 // Whether x, which is directory j, is normal if the directories are, and its nearest ancestor, if it has one, is a directory.
 fn up_held(dirs: &[u8], keys: &[u32], m: usize, j: usize, x: &[u8]) -> bool
-    requires { ⌜ (m * dirWidth ≤ length (now dirs)) × Keys textKey (dirAt (now dirs)) m (now keys) × (j < m) × (now x ≡ dirAt (now dirs) j) ⌝ }
+    requires { ⌜
+        (m * dirWidth ≤ length (now dirs))
+        × Keys textKey (dirAt (now dirs)) m (now keys)
+        × (j < m)
+        × (now x ≡ dirAt (now dirs) j) ⌝ }
     ensures { λ r. ⌜ Judged (Upright (now (dirs .entry)) m j) (now (dirs .entry)) m r ⌝ }
 {
     let e = path::above(x);

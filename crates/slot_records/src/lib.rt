@@ -1,7 +1,7 @@
 // The slot rows as "a lent run of records, one row a slot": pool.rs's `Slot` but for its path, whose bytes stay beside the run, so that a
 // row is read without copying 480 of them. `get` and `set` touch one row, and no other function touches one: through them the flat numbers
-// that crate slot_rows works on are loaded from the records, and stored back. Nothing is refused: an index is within the run, and a buffer has
-// room for four numbers a row.
+// that crate slot_rows works on are loaded from the records, and stored back. Nothing is refused: an index is within the run, and a buffer
+// has room for four numbers a row.
 use limits::ROW_WIDTH;
 ghost use mathlib.Core.Path.{_≡_};
 ghost use mathlib.Core.Bool.{true};
