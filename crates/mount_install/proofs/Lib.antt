@@ -2,5 +2,5 @@
 
 -- The loops over the staged rows: each keeps "the whole answer is the answer on what is left".
 pub mod Walks
--- Staged rows: registering, queueing and putting back, over lists.
+-- Staged rows: registering and queueing, over lists.
 pub mod StagedRows

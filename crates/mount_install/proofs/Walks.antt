@@ -8,14 +8,14 @@ use mathlib.Core.List.{List, [], _∷_, _++_, List·Memᴰ·head, List·Memᴰ·
 use lib.ListN.{length, take, drop, getD, set, replicate, drop-of-length-le, length-set}
 use lib.Seq.{sets, drop-cons, take-append-le, take-all, length-take-le, getD-take}
 use borrow.Author.Tests.{lt-ltb, le-ltb}
-use Rattle.limits.specs.Limits.{maxPath, rowWidth, dirWidth, lastCounter}
+use Rattle.limits.specs.Limits.{maxPath, dirWidth, lastCounter}
 use Rattle.lists.specs.Blocks.{pad, cat}
 use Rattle.lists.specs.Distinct.{In}
 use Rattle.path.specs.Path.{normal, ancestors}
 use Rattle.path.specs.Theorems.{normal-short}
-use Rattle.slot_rows.specs.Rows.{Row, none, at, isBound, pathOf, rowNums, rowName, rowsOf, flatNums, flatNames, Flat}
+use Rattle.slot_rows.specs.Rows.{Row, none, at, isBound, pathOf, rowsOf, flatNums, flatNames, Flat}
 use Rattle.slot_rows.specs.Rows as Rows
-use Rattle.slot_rows.proofs.InBuffers.{nums-wide, name-wide, length-rows, nums-long, names-long}
+use Rattle.slot_rows.proofs.InBuffers.{length-rows}
 use Rattle.dir_rows.specs.Dirs.{absent, joined, registered}
 use Rattle.dir_rows.specs.Rows.{dirRow, dirsOf, flatDirs, FlatDirs, Short}
 use Rattle.dir_rows.proofs.InBuffer.{row-wide, length-dirs, dirs-short, dirs-of, dirs-long}
@@ -25,8 +25,9 @@ use Rattle.pool_state.specs.declared.Pool.{Pool}
 use Rattle.pool_state.specs.Queue.{pushed}
 use Rattle.mount_install.specs.declared.Registered.{Registered}
 use Rattle.mount_survey.specs.Staged.{claimed, spares, vacated}
+use Rattle.mount_survey.proofs.FirstRowsStay.{flat-cut}
 use Rattle.mount_install.specs.Install.{answered, kept, refusal, Three, three, Taken, unstaged, pushedAll}
-use Rattle.mount_install.proofs.StagedRows.{claimed-more, claimed-front, claimed-short, answered-yes, answered-no, kept-yes, kept-no, said-yes, said-no, flat-cut}
+use Rattle.mount_install.proofs.StagedRows.{claimed-more, claimed-front, claimed-short, answered-yes, answered-no, kept-yes, kept-no, said-yes, said-no}
 
 -- ---- rows put back
 
@@ -37,24 +38,6 @@ dirs-cut cap d e b b₁ F h q =
     q ∙ ap (λ (x : List ℕ). sets x (d * dirWidth) (replicate ((e - d) * dirWidth) 0)) (sym (F .flat))
     ∙ ap (λ (k : ℕ). sets (pad (cap * dirWidth) (cat dirRow (dirsOf b e))) (d * dirWidth) (replicate ((k - d) * dirWidth) 0)) (sym n)
     ∙ flat-cut dirRow dirWidth row-wide cap d (dirsOf b e) (omega arith) (omega (arith, F .few))
-
-module _ (cap n m : ℕ) (l s : List ℕ) (F : Flat cap m l s) (h : n ≤ m) where
-  rows-many : length (rowsOf l s m) ≡ m
-  rows-many = length-rows l s m
-
-  pub nums-cut : (l₁ : List ℕ) → l₁ ≡ sets l (n * rowWidth) (replicate ((m - n) * rowWidth) 0) → l₁ ≡ flatNums cap (take n (rowsOf l s m))
-  unfolding flatNums
-  nums-cut l₁ q =
-      q ∙ ap (λ (x : List ℕ). sets x (n * rowWidth) (replicate ((m - n) * rowWidth) 0)) (sym (F .nums))
-      ∙ ap (λ (k : ℕ). sets (pad (cap * rowWidth) (cat rowNums (rowsOf l s m))) (n * rowWidth) (replicate ((k - n) * rowWidth) 0)) (sym rows-many)
-      ∙ flat-cut rowNums 4 nums-wide cap n (rowsOf l s m) (omega (arith, rows-many)) (omega (arith, F .few, rows-many))
-
-  pub names-cut : (s₁ : List ℕ) → s₁ ≡ sets s (n * maxPath) (replicate ((m - n) * maxPath) 0) → s₁ ≡ flatNames cap (take n (rowsOf l s m))
-  unfolding flatNames
-  names-cut s₁ q =
-      q ∙ ap (λ (x : List ℕ). sets x (n * maxPath) (replicate ((m - n) * maxPath) 0)) (sym (F .names))
-      ∙ ap (λ (k : ℕ). sets (pad (cap * maxPath) (cat rowName (rowsOf l s m))) (n * maxPath) (replicate ((k - n) * maxPath) 0)) (sym rows-many)
-      ∙ flat-cut rowName maxPath name-wide cap n (rowsOf l s m) (omega (arith, rows-many)) (omega (arith, F .few, rows-many))
 
 -- ---- one row's ancestors
 

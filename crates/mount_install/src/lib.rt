@@ -5,14 +5,13 @@
 use limits::DIR_WIDTH;
 use limits::LAST_COUNTER;
 use limits::MAX_PATH;
-use limits::ROW_WIDTH;
 use pool_state::Pool;
 ghost use mathlib.Core.Path.{_≡_};
 ghost use mathlib.Core.Bool.{cond};
 ghost use Prim.Native.Nat.{ℕ, _≤_, _<_};
 ghost use lib.ListN.{length, take, drop};
 ghost use Rattle.lists.specs.Distinct.{In};
-ghost use Rattle.slot_rows.specs.Rows.{at, pathOf, rowsOf, Flat, flatNums, flatNames};
+ghost use Rattle.slot_rows.specs.Rows.{at, pathOf, rowsOf, Flat};
 ghost use Rattle.dir_rows.specs.Dirs.{registered};
 ghost use Rattle.dir_rows.specs.Rows.{dirsOf, flatDirs, FlatDirs};
 ghost use Rattle.pool_state.specs.Queue.{pushed};
@@ -40,17 +39,6 @@ pub fn clear_dirs(dirs: &mut [u8], cap: usize, d: usize, e: usize)
     ensures { λ _. ⌜ now (dirs .exit) ≡ flatDirs cap (take d (dirsOf (now (dirs .entry)) e)) ⌝ }
 {
     slot_rows::zero_in(dirs, d * DIR_WIDTH, (e - d) * DIR_WIDTH);
-}
-
-// The slot rows from n to m - 1 are zero again.
-pub fn unstage(nums: &mut [u64], names: &mut [u8], cap: usize, n: usize, m: usize)
-    requires { ⌜ Flat cap m (now nums) (now names) × (n ≤ m) ⌝ }
-    ensures nums { λ _. ⌜ now (nums .exit) ≡ flatNums cap (take n (rowsOf (now (nums .entry)) (now (names .entry)) m)) ⌝ }
-    ensures names { λ _. ⌜ now (names .exit) ≡ flatNames cap (take n (rowsOf (now (nums .entry)) (now (names .entry)) m)) ⌝ }
-{
-    let k = m - n;
-    slot_rows::zero_nums(nums, n * ROW_WIDTH, k * ROW_WIDTH);
-    slot_rows::zero_in(names, n * MAX_PATH, k * MAX_PATH);
 }
 
 // ---- the claims' ancestors
@@ -148,12 +136,12 @@ pub fn accept(
     let e = found.dirs;
     let ok = found.ok;
     if !ok {
-        unstage(nums, names, cap, n, m);
+        mount_survey::unstage(nums, names, cap, n, m);
         return Accepted { out: 8, dirs: 0 };
     }
     if LAST_COUNTER - (losers as u64) < counter {
         clear_dirs(dirs, dir_cap, d, e);
-        unstage(nums, names, cap, n, m);
+        mount_survey::unstage(nums, names, cap, n, m);
         return Accepted { out: 9, dirs: 0 };
     }
     Accepted { out: 0, dirs: e }

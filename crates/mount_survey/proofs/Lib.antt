@@ -2,6 +2,8 @@
 
 -- The search for the losers: what marks do to rows, who holds a path among rows with marks.
 pub mod Finding
+-- Zeros over the last rows of a buffer leave the first ones: over lists, over blocks, and over the slot rows.
+pub mod FirstRowsStay
 -- Headers into rows: what one read says (`said`), the four ways out of one slot, and the record `Staging` that the loop keeps.
 pub mod Staging
 -- What the headers' claims are: text of at most 480 bytes, and not empty. 01, "The header block" and "Mount, adopt".

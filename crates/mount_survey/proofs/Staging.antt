@@ -3,13 +3,13 @@
 use mathlib.Core.Path.{_≡_, refl, sym, ap, _∙_}
 use mathlib.Core.Bool.{Bool, true, false, cond, _&&_, false≢true}
 use mathlib.Core.List.{List, [], _∷_, _++_, map, append-assoc, append-nil}
-use Prim.Native.Nat.{ℕ, zero, suc, _+_, _*_, _-_, _≤_, _<_, max, min}
+use Prim.Native.Nat.{ℕ, suc, _+_, _*_, _-_, _≤_, _<_, max, min}
 use native.Mathlib.Decide.{ℕ-discrete}
 use native.Mathlib.Numerals.{add-one}
 use native.Mathlib.Omega.{arith}
 use lib.Dec.{eqb, ltb}
 use lib.ListN.{length, set, take, drop, replicate, length-take, length-replicate}
-use lib.Seq.{set-at, take-suc, take-all, take-append-le, length-take-le}
+use lib.Seq.{set-at, take-all, take-append-le}
 use Rattle.limits.specs.Limits.{maxPath}
 use Rattle.le.specs.Le.{field, laid}
 use Rattle.le.proofs.Parts.{laid-whole, length-laid}
@@ -23,8 +23,8 @@ use Rattle.device.specs.declared.Geometry.{Geometry}
 use Rattle.device.specs.declared.Got.{Got}
 use Rattle.device.specs.Device.{Dev, dev, turn, after, seen, given, share, read, Read, readM, headerReadM, physOf}
 use Rattle.device.specs.Slots.{share-le}
-use Rattle.slot_rows.specs.Rows.{Row, none, at, rowsOf, flatNums, flatNames, Flat}
-use Rattle.slot_rows.proofs.InBuffers.{length-rows, rows-grow, rows-shrink}
+use Rattle.slot_rows.specs.Rows.{Row, none, rowsOf, flatNums, flatNames, Flat}
+use Rattle.slot_rows.proofs.InBuffers.{length-rows, rows-grow}
 use Rattle.mount_survey.specs.declared.Staged.{Staged}
 use Rattle.mount_survey.specs.Heads.{Head, absent, idle, claim, saidOf, headOf, Reads, behind, looked, readsM}
 use Rattle.mount_survey.specs.Survey.{claimRow}
@@ -167,23 +167,6 @@ module _ (b : List ℕ) (n : ℕ) (r : Decoded) (e : r ≡ decoded b n) where
       pub head-idle : false ≡ (h .«in_use» && ltb 0 (h .«path_len»)) → k ≡ idle (h .generation)
       head-idle t = head-found ∙ rw (← t)
 
--- ---- fewer rows
-
-pub all-rows : (l s : List ℕ) (m : ℕ) → rowsOf l s m ≡ take m (rowsOf l s m)
-all-rows l s m = sym (take-all m (rowsOf l s m) (omega (arith, length-rows l s m)))
-
--- the last of j rows, unbound, need not be counted
-pub fewer : (cap j : ℕ) (l s l₁ s₁ : List ℕ) (rs : List Row) → 0 < j → j ≤ length rs → rowsOf l s j ≡ take j rs
-    → rowsOf l₁ s₁ j ≡ set (rowsOf l s j) (j - 1) none → Flat cap j l₁ s₁ → (rowsOf l₁ s₁ (j - 1) ≡ take (j - 1) rs) × Flat cap (j - 1) l₁ s₁
-fewer cap zero l s l₁ s₁ rs h k e v F = absurd (omega arith)
-fewer cap (suc i) l s l₁ s₁ rs h k e v F =
-    let z : suc i - 1 ≡ i = omega arith in
-    let y : suc i ≡ i + 1 = omega arith in
-    let f : Flat cap (i + 1) l₁ s₁ = rw (← y) F in
-    let w : rowsOf l₁ s₁ (suc i) ≡ take i rs ++ (none ∷ []) =
-    v ∙ rw (e, z, take-suc rs i none (omega arith)) (set-at (take i rs) (at rs i) [] none i (length-take-le i rs (omega arith))) in
-    rw z (rows-shrink cap i 1 l₁ s₁ (take i rs) f (rw (← y) w))
-
 -- ---- all slots
 
 -- the contract: r comes back
@@ -266,17 +249,18 @@ module _ (plan : List ℕ) (g : Geometry) (bytes phys : List ℕ) (cap n k : ℕ
       pub stages-held : r .failed ≡ true → Flat cap i l₂ s₂ × (n ≤ i)
       stages-held f = let q = D .1 .1 .1 .1 .1 f in (rw (q .0, q .1) (S .flat), S .from)
 
-      -- and with the rows from n on unbound, all is as it was
-      pub stages-stop : (l₃ s₃ : List ℕ) → r .failed ≡ true → Flat cap n l₀ s₀ → rowsOf l₃ s₃ n ≡ take n (rowsOf l₂ s₂ i) → Flat cap n l₃ s₃
+      -- and with zeros over the rows from n on, all is as it was
+      pub stages-stop : (l₃ s₃ : List ℕ) → r .failed ≡ true → Flat cap n l₀ s₀
+          → l₃ ≡ flatNums cap (take n (rowsOf l₂ s₂ i)) → s₃ ≡ flatNames cap (take n (rowsOf l₂ s₂ i))
           → StageDone (readsM plan g n k (dev bytes phys p₀)) cap n (n + k) l₀ s₀ r l₃ s₃
       unfolding askedOf
-      stages-stop l₃ s₃ f F e G =
+      stages-stop l₃ s₃ f F x y =
           let t : eqb (turn plan p) 1 ≡ true = sym (D .1 .0) ∙ f in
           let u : Reads = record { failed = true; heads = []; place = looked plan (dev bytes phys p) .place } in
           let w : ahead plan g bytes phys (n + k) p i ≡ u = more ∙ rw t in
           let a : r .asked ≡ asked = D .1 .1 .0 ∙ rw f in
           let q = D .1 .1 .1 .1 .1 f in
-          let b : rowsOf l₃ s₃ n ≡ rowsOf l₀ s₀ n = e ∙ rw (q .0, q .1) (S .front) in (
+          let b : take n (rowsOf l₂ s₂ i) ≡ rowsOf l₀ s₀ n = rw (q .0, q .1) (S .front) in (
             D .0 ∙ ap (λ (x : Reads). x .place) (sym w) ∙ S .place,
             (
               f ∙ ap (λ (x : Reads). x .failed) (sym w) ∙ S .failed,
@@ -286,7 +270,7 @@ module _ (plan : List ℕ) (g : Geometry) (bytes phys : List ℕ) (cap n k : ℕ
                   (λ z. absurd (false≢true (sym z ∙ f))),
                   (
                     (λ z. absurd (false≢true (sym z ∙ f))),
-                    (λ z. (sym (G .nums) ∙ ap (flatNums cap) b ∙ F .nums, sym (G .names) ∙ ap (flatNames cap) b ∙ F .names)),
+                    (λ z. (x ∙ ap (flatNums cap) b ∙ F .nums, y ∙ ap (flatNames cap) b ∙ F .names)),
                   ),
                 ),
               ),

@@ -7,6 +7,7 @@ use header::Decoded;
 use header::Header;
 use limits::LAST_COUNTER;
 use limits::MAX_PATH;
+use limits::ROW_WIDTH;
 ghost use mathlib.Core.Path.{_≡_};
 ghost use mathlib.Core.Bool.{true, false, cond, _&&_};
 ghost use mathlib.Core.List.{[], _∷_, _++_, map};
@@ -16,7 +17,7 @@ ghost use Rattle.lists.specs.Blocks.{pad};
 ghost use lib.Dec.{eqb, ltb};
 ghost use Rattle.device.specs.Device.{turn, given, Shape};
 ghost use Rattle.path.specs.Path.{keyOf};
-ghost use Rattle.slot_rows.specs.Rows.{at, pathOf, holds, find, rowsOf, Flat};
+ghost use Rattle.slot_rows.specs.Rows.{at, pathOf, holds, find, rowsOf, Flat, flatNums, flatNames};
 ghost use Rattle.mount_survey.specs.Heads.{devBefore, headOf, looked, readsM};
 ghost use Rattle.mount_survey.specs.Claims.{rowOf, asksFor, asks, askedOf, losersOf, left, live, loserOf};
 
@@ -189,18 +190,15 @@ fn raised(asked: u64, generation: u64) -> u64
     generation + 1
 }
 
-// Unbinds the rows from n on, which leaves the first n of m rows.
-fn unstage(nums: &mut [u64], names: &mut [u8], cap: usize, n: usize, m: usize)
+// The slot rows from n to m - 1 are zero again.
+pub fn unstage(nums: &mut [u64], names: &mut [u8], cap: usize, n: usize, m: usize)
     requires { ⌜ Flat cap m (now nums) (now names) × (n ≤ m) ⌝ }
-    ensures rows { λ _. ⌜ rowsOf (now (nums .exit)) (now (names .exit)) n ≡ take n (rowsOf (now (nums .entry)) (now (names .entry)) m) ⌝ }
-    ensures flat { λ _. ⌜ Flat cap n (now (nums .exit)) (now (names .exit)) ⌝ }
+    ensures nums { λ _. ⌜ now (nums .exit) ≡ flatNums cap (take n (rowsOf (now (nums .entry)) (now (names .entry)) m)) ⌝ }
+    ensures names { λ _. ⌜ now (names .exit) ≡ flatNames cap (take n (rowsOf (now (nums .entry)) (now (names .entry)) m)) ⌝ }
 {
-    let mut j = m;
-    while j > n {
-        let i = j - 1;
-        slot_rows::unbind_row(nums, names, cap, j, i, 0);
-        j = i;
-    }
+    let k = m - n;
+    slot_rows::zero_nums(nums, n * ROW_WIDTH, k * ROW_WIDTH);
+    slot_rows::zero_in(names, n * MAX_PATH, k * MAX_PATH);
 }
 
 // ---- losers

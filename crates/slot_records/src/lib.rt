@@ -7,9 +7,8 @@ ghost use mathlib.Core.Path.{_≡_};
 ghost use mathlib.Core.Bool.{true};
 ghost use Prim.Native.Nat.{_+_, _*_, _/_, _≤_, _<_};
 ghost use lib.ListN.{length, set, take, replicate};
-ghost use lib.Seq.{sets};
 ghost use Rattle.limits.specs.Limits.{rowWidth};
-ghost use Rattle.slot_records.specs.Records.{none, slotAt, slotNums, numsOf, slotIn, loaded, stored, flatOf, cleared};
+ghost use Rattle.slot_records.specs.Records.{none, slotAt, numsOf, slotIn, loaded, stored, flatOf, cleared};
 ghost use Rattle.slot_records.specs.Whole.{wholeRows, spreadOf};
 
 // A row: mark (0 unbound, 1 clean, 2 dirty), path length, file length, generation.
@@ -48,7 +47,7 @@ pub fn load(rows: &[Slot], nums: &mut [u64])
     let mut i: usize = 0;
     while i < rows.len() {
         let slot = get(rows, i);
-        put_nums(nums, i, slot);
+        slot_rows::put_nums(nums, i, slot.mark, slot.path_len, slot.len, slot.generation);
         i += 1;
     }
 }
@@ -146,7 +145,7 @@ pub fn put_rows(nums: &mut [u64], rows: [Slot; 66])
     let mut i: usize = 0;
     while i < n {
         let slot = rows[i];
-        put_nums(nums, i, slot);
+        slot_rows::put_nums(nums, i, slot.mark, slot.path_len, slot.len, slot.generation);
         i += 1;
     }
 }
@@ -166,18 +165,6 @@ fn zeros() -> [u64; 256]
     ensures { λ r. ⌜ r ≡ replicate 256 0 ⌝ }
 {
     [0; 256]
-}
-
-// Writes the four numbers of row i.
-fn put_nums(nums: &mut [u64], i: usize, slot: Slot)
-    requires { ⌜ i * rowWidth + rowWidth ≤ length (now nums) ⌝ }
-    ensures { λ _. ⌜ now (nums .exit) ≡ sets (now (nums .entry)) (i * rowWidth) (slotNums slot) ⌝ }
-{
-    let at = i * ROW_WIDTH;
-    nums[at] = slot.mark;
-    nums[at + 1] = slot.path_len;
-    nums[at + 2] = slot.len;
-    nums[at + 3] = slot.generation;
 }
 
 // The row of the four numbers of row i.

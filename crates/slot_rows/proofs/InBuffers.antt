@@ -1,4 +1,4 @@
--- Rows and their buffers: the view of a flat form, what a store to one row does, what stands in a row's place, and more or fewer rows.
+-- Rows and their buffers: the view of a flat form, what a store to one row does, what stands in a row's place, and more rows.
 use mathlib.Core.Path.{_≡_, refl, sym, ap, _∙_}
 use mathlib.Core.List.{List, [], _∷_, _++_, append-assoc}
 use mathlib.Core.Bool.{Bool, true, false}
@@ -160,7 +160,7 @@ module _ (cap n : ℕ) (l s : List ℕ) (F : Flat cap n l s) (i : ℕ) (h : i < 
   unfolding rowName
   row-kept r l₁ e a = row-stored r l₁ s (rw e (F .short i)) a (sym name-stays ∙ rw e)
 
--- ---- more rows, and fewer
+-- ---- more rows
 
 nums-blank : rowNums none ≡ replicate 4 0
 unfolding rowNums
@@ -174,12 +174,6 @@ pub short-append : (rs ts : List Row) → Short rs → Short ts → Short (rs ++
 short-append [] ts h k j = k j
 short-append (r ∷ rs) ts h k zero = h 0
 short-append (r ∷ rs) ts h k (suc j) = short-append rs ts (λ m. h (suc m)) k j
-
-pub short-front : (rs ts : List Row) → Short (rs ++ ts) → Short rs
-unfolding pathOf
-short-front [] ts h j = omega arith
-short-front (r ∷ rs) ts h zero = h 0
-short-front (r ∷ rs) ts h (suc j) = short-front rs ts (λ m. h (suc m)) j
 
 short-none : (k : ℕ) → Short (replicate k none)
 unfolding pathOf
@@ -203,13 +197,3 @@ module _ (cap n k : ℕ) (l s : List ℕ) where
       flat-of cap (n + k) (rowsOf l s n ++ replicate k none) l s e h (short-append (rowsOf l s n) (replicate k none) (F .short) (short-none k))
       (sym (F .nums) ∙ sym (flat-more rowNums 4 nums-wide none nums-blank cap (rowsOf l s n) k few))
       (sym (F .names) ∙ sym (flat-more rowName maxPath name-wide none name-blank cap (rowsOf l s n) k few))
-
-  -- and the last k rows, where they are `none`, need not be counted
-  pub rows-shrink : (rs : List Row) → Flat cap (n + k) l s → rowsOf l s (n + k) ≡ rs ++ replicate k none → (rowsOf l s n ≡ rs) × Flat cap n l s
-  unfolding flatNums flatNames
-  rows-shrink rs F v =
-      let e : length rs + k ≡ n + k = simp (length-append, length-replicate, length-rows) at (ap length (sym v)) in
-      let few : length rs + k ≤ cap = omega (arith, F .few) in
-      flat-of cap n rs l s (omega arith) (omega arith) (λ i. short-front rs (replicate k none) (rw v at (F .short)) i)
-      (sym (F .nums) ∙ rw v (flat-more rowNums 4 nums-wide none nums-blank cap rs k few))
-      (sym (F .names) ∙ rw v (flat-more rowName maxPath name-wide none name-blank cap rs k few))

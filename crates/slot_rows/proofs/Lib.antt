@@ -6,5 +6,5 @@ pub mod Fields
 pub mod Search
 -- What `find` means: the row it names holds the path and is the first that does; equal paths are found alike.
 pub mod Finding
--- Rows and their buffers: the view of a flat form, what a store to one row does, what stands in a row's place, and more or fewer rows.
+-- Rows and their buffers: the view of a flat form, what a store to one row does, what stands in a row's place, and more rows.
 pub mod InBuffers

@@ -67,7 +67,7 @@ pub fn put_padded(dst: &mut [u8], at: usize, width: usize, src: &[u8])
 }
 
 // Writes the four numbers of row i.
-fn put_nums(nums: &mut [u64], i: usize, mark: u64, path_len: u64, len: u64, generation: u64)
+pub fn put_nums(nums: &mut [u64], i: usize, mark: u64, path_len: u64, len: u64, generation: u64)
     requires { ⌜ i * rowWidth + rowWidth ≤ length (now nums) ⌝ }
     ensures { λ _. ⌜ now (nums .exit) ≡ sets (now (nums .entry)) (i * rowWidth) (mark ∷ «path_len» ∷ len ∷ generation ∷ []) ⌝ }
 {

@@ -35,18 +35,20 @@ unstage-requires c κs =
 same-length : tie.Need-same-length Inv-loop μ-loop
 same-length c =
     let at-unstage = c .before .before .before .before in
-    let after-start-2 = at-unstage .before .before .before .before .before .before .before in
-    let after-start = after-start-2 .before .before .before .before .before .before .before in
-    let at-start = after-start .before .before .before .before in
-    nums-long _ _ _ _ (at-unstage .unstage .ensures .1) ∙ sym (nums-long _ _ _ _ (at-start .pre .0 .1))
+    let at-if1 = at-unstage .before .before .before in
+    let at-slot = at-if1 .before .before .before .before .before in
+    let at-loop = at-slot .before .before .before .before in
+    let at-start = at-loop .before .before .before .before .before .before in
+    omega (arith, nums-long _ _ _ _ (at-loop .loop .inv .flat), nums-long _ _ _ _ (at-start .pre .0 .1))
 
 same-length-2 : tie.Need-same-length-2 Inv-loop μ-loop
 same-length-2 c =
     let at-unstage = c .before .before .before .before in
-    let after-start-2 = at-unstage .before .before .before .before .before .before .before in
-    let after-start = after-start-2 .before .before .before .before .before .before .before in
-    let at-start = after-start .before .before .before .before in
-    names-long _ _ _ _ (at-unstage .unstage .ensures .1) ∙ sym (names-long _ _ _ _ (at-start .pre .0 .1))
+    let at-if1 = at-unstage .before .before .before in
+    let at-slot = at-if1 .before .before .before .before .before in
+    let at-loop = at-slot .before .before .before .before in
+    let at-start = at-loop .before .before .before .before .before .before in
+    omega (arith, names-long _ _ _ _ (at-loop .loop .inv .flat), names-long _ _ _ _ (at-start .pre .0 .1))
 
 returns : tie.Need-returns Inv-loop μ-loop
 returns c =

@@ -1,65 +1,69 @@
--- Carried by `fewer`: the last row, unbound, need not be counted.
-use mathlib.Core.Path.{sym, _∙_, _≡_}
-use Prim.Native.Nat.{_≤_, _-_}
-use lib.ListN.{take}
-use Rattle.slot_rows.specs.Rows.{rowsOf, Flat}
-use Rattle.slot_rows.proofs.InBuffers.{length-rows, nums-long, names-long}
-use Rattle.mount_survey.proofs.Staging.{fewer, all-rows}
+-- Carried by `nums-cut` and `names-cut`: zeros over the last rows leave the first ones.
+use Rattle.slot_rows.proofs.InBuffers.{nums-long, names-long}
+use Rattle.mount_survey.proofs.FirstRowsStay.{nums-cut, names-cut}
 use native.Mathlib.Omega.{arith}
+use borrow.Author.Needs.{needs}
 use Rattle.mount_survey.proofs.unstage.Statement.{statement}
 use Rattle.mount_survey.proofs.unstage.Tie as tie
 
-abbrev Inv-loop : tie.InvT-loop
-Inv-loop nums₀ names₀ cap n m j₀ nums names j = (n ≤ j) × (j ≤ m) × Flat cap j nums names × (rowsOf nums names j ≡ take j (rowsOf nums₀ names₀ m))
+sub-k : tie.Need-sub-k
+sub-k c = search needs
 
-abbrev μ-loop : tie.MeasureT-loop
-μ-loop nums₀ names₀ cap n m j₀ nums names j = j - n
+mul-zero-nums : tie.Need-mul-zero-nums
+mul-zero-nums c =
+    let start = c .before .before .before in
+    omega (arith, nums-long _ _ _ _ (start .pre .0), names-long _ _ _ _ (start .pre .0), start .pre .0 .few)
 
-loop-holds : tie.Need-loop-holds Inv-loop μ-loop
-loop-holds c =
-    let pre = c .before .before .pre in
-    (pre .1, omega arith, pre .0, all-rows _ _ _)
+mul-zero-nums-2 : tie.Need-mul-zero-nums-2
+mul-zero-nums-2 c =
+    let start = c .before .before .before in
+    omega (arith, nums-long _ _ _ _ (start .pre .0), names-long _ _ _ _ (start .pre .0), start .pre .0 .few)
 
-sub-i : tie.Need-sub-i Inv-loop μ-loop
-sub-i c = omega arith
+zero-nums-requires : tie.Need-zero-nums-requires
+zero-nums-requires c κs =
+    let start = c .before .before .before in
+    omega (arith, nums-long _ _ _ _ (start .pre .0), names-long _ _ _ _ (start .pre .0), start .pre .0 .few)
 
-unbind-row-requires : tie.Need-unbind-row-requires Inv-loop μ-loop
-unbind-row-requires c κs = (c .before .before .before .loop .inv .2, omega arith)
+mul-zero-in : tie.Need-mul-zero-in
+mul-zero-in c =
+    let start = c .before .before .before .before .before .before .before in
+    omega (arith, nums-long _ _ _ _ (start .pre .0), names-long _ _ _ _ (start .pre .0), start .pre .0 .few)
 
-loop-less : tie.Need-loop-less Inv-loop μ-loop
-loop-less c = omega arith
+mul-zero-in-2 : tie.Need-mul-zero-in-2
+mul-zero-in-2 c =
+    let start = c .before .before .before .before .before .before .before in
+    omega (arith, nums-long _ _ _ _ (start .pre .0), names-long _ _ _ _ (start .pre .0), start .pre .0 .few)
 
-loop-again : tie.Need-loop-again Inv-loop μ-loop
-loop-again c =
-    let at-unbind = c .before .before .before .before in
-    let args = at-unbind .before .before .before .before .before .before .before .args in
-    let unbind-row = at-unbind .unbind-row in
-    let f = fewer _ _ _ _ _ _ _ (omega arith) (omega (arith, length-rows (args .nums .now) (args .names .now) (args .m))) (at-unbind .before .before .before .before .loop .inv .3) (unbind-row .ensures .0) (unbind-row .ensures .1) in
-    (omega arith, omega arith, f .1, f .0)
+zero-in-requires : tie.Need-zero-in-requires
+zero-in-requires c κs =
+    let start = c .before .before .before .before .before .before .before in
+    omega (arith, nums-long _ _ _ _ (start .pre .0), names-long _ _ _ _ (start .pre .0), start .pre .0 .few)
 
-same-length : tie.Need-same-length Inv-loop μ-loop
-same-length c = nums-long _ _ _ _ (c .before .loop .inv .2) ∙ sym (nums-long _ _ _ _ (c .before .before .before .before .pre .0))
+same-length : tie.Need-same-length
+same-length c = search needs
 
-same-length-2 : tie.Need-same-length-2 Inv-loop μ-loop
-same-length-2 c = names-long _ _ _ _ (c .before .loop .inv .2) ∙ sym (names-long _ _ _ _ (c .before .before .before .before .pre .0))
+same-length-2 : tie.Need-same-length-2
+same-length-2 c = search needs
 
-returns : tie.Need-returns Inv-loop μ-loop
+returns : tie.Need-returns
 returns c =
-    let at-loop = c .before in
-    let e : at-loop .loop .j ≡ at-loop .before .before .before .args .n = omega arith in
-    (rw e at (at-loop .loop .inv .3), rw e at (at-loop .loop .inv .2))
+    let at-zero-in = c .before .before in
+    let at-zero-nums = at-zero-in .before .before .before .before in
+    let start = at-zero-nums .before .before .before .before in
+    let pre = start .pre in
+    (nums-cut _ _ _ _ _ (pre .0) (pre .1) _ (at-zero-nums .zero-nums .ensures), names-cut _ _ _ _ _ (pre .0) (pre .1) _ (at-zero-in .zero-in .ensures))
 
 pub unstage-spec : {M : Type 1} → statement M
 unstage-spec =
     tie.close
     (tie.spec
-    Inv-loop
-    μ-loop
-    loop-holds
-    sub-i
-    unbind-row-requires
-    loop-less
-    loop-again
+    sub-k
+    mul-zero-nums
+    mul-zero-nums-2
+    zero-nums-requires
+    mul-zero-in
+    mul-zero-in-2
+    zero-in-requires
     same-length
     same-length-2
     returns)

@@ -1,4 +1,4 @@
--- `slot_records::load` meets its contract: a walk of its MIR, by hand, with a loop. A turn calls `get`, lends nums to `put_nums`, and takes them back; `load-turn` of Turns is the turn.
+-- `slot_records::load` meets its contract: a walk of its MIR, by hand, with a loop. A turn calls `get`, lends nums to `slot_rows::put_nums`, and takes them back; `load-turn` of Turns is the turn.
 -- Assumes nothing.
 use mathlib.Core.Path.{_≡_, refl, sym, _∙_, ap, subst}
 use Prim.Native.Nat.{ℕ, _<_, _≤_, _+_, _-_, _*_, _^_}
@@ -46,9 +46,13 @@ use Rattle.limits.specs.Limits.{rowWidth}
 use Rattle.byhand.proofs.Calls.{ty, calls-to, copied, a-number}
 use Rattle.byhand.proofs.Facts.{ends}
 use Rattle.byhand.proofs.Lend.{anew, lend, back}
+use Rattle.slot_rows.proofs.put_nums as write
+use Rattle.slot_rows.proofs.put_nums.Symbol as write-def
+use Rattle.slot_rows.proofs.put_nums.Symbol.{name as #slot-rows·put-nums}
+use Rattle.slot_rows.proofs.put_nums.Met as write-thm
 use Rattle.slot_records.specs.declared.Slot.{Slot}
 use Rattle.slot_records.specs.Records.{slotAt, slotNums}
-use Rattle.slot_records.proofs.Parts.{slotT, slotV, a-slot}
+use Rattle.slot_records.proofs.Parts.{slotT, slotV}
 use Rattle.slot_records.proofs.Turns.{Loading, load-start, load-turn, load-end}
 use Rattle.slot_records.proofs.Slot as S
 use Rattle.slot_records.proofs.Slot.Laws as S′
@@ -56,10 +60,6 @@ use Rattle.slot_records.proofs.get as read
 use Rattle.slot_records.proofs.get.Symbol as read-def
 use Rattle.slot_records.proofs.get.Symbol.{name as #slot-records·get}
 use Rattle.slot_records.proofs.get.Met as read-thm
-use Rattle.slot_records.proofs.put_nums as write
-use Rattle.slot_records.proofs.put_nums.Symbol as write-def
-use Rattle.slot_records.proofs.put_nums.Symbol.{name as #slot-records·put-nums}
-use Rattle.slot_records.proofs.put_nums.Met as write-thm
 use Rattle.slot_records.proofs.load.Key.{name as #slot-records·load}
 use Rattle.slot_records.proofs.load as outer
 use Rattle.slot_records.proofs.load.Statement as stated
@@ -110,7 +110,7 @@ module _ {M : Type 1} (𝓤 : URA M) (H : Heap 𝓤) (A : Atoms 𝓤) (W : Given
   nearer-ends : WellFounded Nearer
   nearer-ends = InvImage·wf (λ (t : State). n - t .0) (Nat·lt-wfRel .wf)
 
-  module _ (𝓣 : Tables 𝓤 H) (reads : Meets 𝓤 H A read.signature (𝓣 .C #slot-records·get) (read.spec 𝓤 H A at-mem run)) (writes : Meets 𝓤 H A write.signature (𝓣 .C #slot-records·put-nums) (write.spec 𝓤 H A at-mem run)) (l0 l1 l2 l3 l4 l5 l6 l7 l8 l9 : ℕ) where
+  module _ (𝓣 : Tables 𝓤 H) (reads : Meets 𝓤 H A read.signature (𝓣 .C #slot-records·get) (read.spec 𝓤 H A at-mem run)) (writes : Meets 𝓤 H A write.signature (𝓣 .C #slot-rows·put-nums) (write.spec 𝓤 H A at-mem run)) (l0 l1 l2 l3 l4 l5 l6 l7 l8 l9 : ℕ) where
     abbrev En : Env 𝓤 H
     En = (τ 0, l0) ∷ (τ 1, l1) ∷ (τ 2, l2) ∷ (τ 3, l3) ∷ (τ 4, l4) ∷ (τ 5, l5) ∷ (τ 6, l6) ∷ (τ 7, l7) ∷ (τ 8, l8) ∷ (τ 9, l9) ∷ []
 
@@ -137,7 +137,7 @@ module _ {M : Type 1} (𝓤 : URA M) (H : Heap 𝓤) (A : Atoms 𝓤) (W : Given
       room-now = subst (Room u64) (sym long) (are .1 .0 .0 .1)
 
       one-turn : ltb i n ≡ true → Sq W (At t) (runs (𝓣 .C) (𝓣 .Λ) En body.turn-1 (anyQ (Turned t)))
-      unfolding afterTurn
+      unfolding afterTurn slotNums
       one-turn eq =
           assigns ! (of-opd ! (load ! (from ! (fld ! refl (stop !))) (look-in ! 16 (sub ! 1 refl (whole !))))) (from ! (stop !)) (init ! 8 refl (tt, record { fits = are .0 .0 .1 .0 })) $
           assigns ! (bin ! (load ! (from ! (stop !)) (look ! 12 refl)) (load ! (from ! (stop !)) (look ! 8 refl)) tt) (from ! (stop !)) (init ! 6 refl (tt, tt)) $
@@ -150,9 +150,27 @@ module _ {M : Type 1} (𝓤 : URA M) (H : Heap 𝓤) (A : Atoms 𝓤) (W : Given
           -- it is written
           assigns ! (addr ! (from ! (fld ! refl (hop ! (look-in ! 16 (sub ! 0 refl (whole !))) (stop !))))) (from ! (stop !)) (init ! 4 refl (tt, tt)) $
           assigns ! (agg ! (and-then ! (load ! (from ! (stop !)) (look ! 4 refl)) (and-then ! (load ! (from ! (fld ! refl (stop !))) (look-in ! 16 (sub ! 1 refl (whole !)))) (no-more !)))) (from ! (stop !)) (init ! 2 refl (tt, (tt, (record { fits = are .1 .0 .0 .1 .0 }, tt)))) $
-          move ! (22 ∷ 23 ∷ []) $ lend ! tt u64 (named 1) (named 0) now-dst (slice-vals nums) (λ ν δ. nothing ! $ a-slot ! r is $ fjoin ! $ a-number ! i i-fits $ fjoin ! $ move ! (2 ∷ 0 ∷ []) $ fjoin ! $ nothing ! $ move ! (2 ∷ 0 ∷ []) $
+          move ! (22 ∷ 23 ∷ []) $ lend ! tt u64 (named 1) (named 0) now-dst (slice-vals nums) (λ ν δ. nothing ! $
+          a-number ! (r .generation) (LL.owed S.the-type S′.the-laws r _ is .1 .1 .1 .0 .1) $ fjoin ! $
+          a-number ! (r .len) (LL.owed S.the-type S′.the-laws r _ is .1 .1 .0 .1) $ fjoin ! $
+          a-number ! (r .«path_len») (LL.owed S.the-type S′.the-laws r _ is .1 .0 .1) $ fjoin ! $
+          a-number ! (r .mark) (LL.owed S.the-type S′.the-laws r _ is .0 .1) $ fjoin ! $
+          a-number ! i i-fits $ fjoin ! $ move ! (2 ∷ 0 ∷ []) $ fjoin ! $ nothing ! $ move ! (2 ∷ 0 ∷ []) $
           join ! $ use1 W (raw (alive 𝓤 H A write.signature (ν ∷ [], tt) (fullShare, tt))) (id⊢ 𝓤 _) $ move ! (0 ∷ 1 ∷ []) $
-          calls-to ! (fmOf 𝓤 H (W .laws) 𝓣) write.ended (write.clauses 𝓤 H A at-mem run) writes (((ν ∷ [], tt), (fullShare, tt), tt, (anew nums δ l, (i, (r, tt))), (slice-vals nums, (vint w64 i ∷ [], (slotV r ∷ [], tt)))), tt) (factI 𝓤 _ _ four-now) (λ _. vunit) nothing-tells (and-then ! (load ! (from ! (stop !)) (look ! 4 refl)) (and-then ! (load ! (from ! (stop !)) (look ! 16 refl)) (and-then ! (load ! (from ! (stop !)) (look ! 14 refl)) (no-more !)))) (λ _ ws _.
+          calls-to ! (fmOf 𝓤 H (W .laws) 𝓣) write.ended (write.clauses 𝓤 H A at-mem run) writes (
+            (
+              (ν ∷ [], tt),
+              (fullShare, tt),
+              tt,
+              (anew nums δ l, (i, (r .mark, (r .«path_len», (r .len, (r .generation, tt)))))),
+              (slice-vals nums, (vint w64 i ∷ [], (vint w64 (r .mark) ∷ [], (vint w64 (r .«path_len») ∷ [], (vint w64 (r .len) ∷ [], (vint w64 (r .generation) ∷ [], tt)))))),
+            ),
+            tt,
+          ) (factI 𝓤 _ _ four-now) (λ _. vunit) nothing-tells (and-then ! (load ! (from ! (stop !)) (look ! 4 refl)) (and-then ! (load ! (from ! (stop !)) (look ! 16 refl))
+          (and-then ! (load ! (from ! (fld ! refl (stop !))) (look-in ! 14 (sub ! 0 refl (whole !))))
+          (and-then ! (load ! (from ! (fld ! refl (stop !))) (look-in ! 14 (sub ! 1 refl (whole !))))
+          (and-then ! (load ! (from ! (fld ! refl (stop !))) (look-in ! 14 (sub ! 2 refl (whole !))))
+          (and-then ! (load ! (from ! (fld ! refl (stop !))) (look-in ! 14 (sub ! 3 refl (whole !)))) (no-more !))))))) (λ _ ws _.
           heard ! (ws .0 ≡ sets l (i * rowWidth) (slotNums r)) (λ e. fsplit ! $ fsplit ! $ move ! (1 ∷ []) $ feqL ! (λ long-now. move ! (1 ∷ []) $ drop ! $ move ! (1 ∷ []) $ use1 W (‵ (flft (ν ∷ []) fullShare) ⊛ ‵ ftrue) (id⊢ 𝓤 _) $ split ! $ move ! (1 ∷ []) $ drop ! $
           land ! (from ! (stop !)) (init ! 9 refl (tt, tt)) $ move ! (0 ∷ 2 ∷ 1 ∷ []) $ back ! tt u64 (named 1) now-dst (slice-vals nums) (ws .0) vals-now room-now long-now $
           assigns-last ! (bin ! (load ! (from ! (stop !)) (look ! 16 refl)) (lit ! tt) (record { fits = next-fits })) (from ! (stop !)) (store ! 16 refl (tt, record { fits = next-fits })) $
@@ -196,7 +214,7 @@ module _ {M : Type 1} (𝓤 : URA M) (H : Heap 𝓤) (A : Atoms 𝓤) (W : Given
     turns : (t : State) → Sq W (At t) (runs (𝓣 .C) (𝓣 .Λ) En body.turn-1 (anyQ (Turned t)))
     turns t = cases (t .0) (t .1) (t .2 .0) (t .2 .1) (ltb (t .0) n) refl
 
-  walk : (𝓣 : Tables 𝓤 H) → Meets 𝓤 H A read.signature (𝓣 .C #slot-records·get) (read.spec 𝓤 H A at-mem run) → Meets 𝓤 H A write.signature (𝓣 .C #slot-records·put-nums) (write.spec 𝓤 H A at-mem run)
+  walk : (𝓣 : Tables 𝓤 H) → Meets 𝓤 H A read.signature (𝓣 .C #slot-records·get) (read.spec 𝓤 H A at-mem run) → Meets 𝓤 H A write.signature (𝓣 .C #slot-rows·put-nums) (write.spec 𝓤 H A at-mem run)
       → ent 𝓤 (onEntry 𝓤 H A outer.signature κs qs a vals) (WpFn 𝓤 H (𝓣 .C) (𝓣 .Λ) code.function (flat (typesAt (outer.signature .params) κs) vals) Post)
   walk 𝓣 reads writes =
       qed W ((‵ (flft (κs .0) (qs .0)) ⊛ (‵ (flft (κs .1 .0) (qs .1 .0)) ⊛ ‵ ftrue)) ∷ ‵ (owns (typesAt (outer.signature .params) κs) a vals) ∷ []) ∵ enter ! (𝓣 .C) (𝓣 .Λ) code.function _ _ $
@@ -219,4 +237,4 @@ load-spec 𝓤 H 𝓜 𝓖 𝓡 =
     (walked 𝓤 H A outer.ended stayed c (WpFn 𝓤 H (𝓣 .C) (𝓣 .Λ) code.function) spelled (λ κs. (shr-slice-tells (named 0) (κs .0) slotT, (mut-slice-tells (named 1) (κs .1 .0) u64, tt)))
     (λ κs qs bounds a _ are. needs 𝓤 (length (a .0 .now) * rowWidth ≤ length (a .1 .0 .now)) _ (λ fits. walk 𝓤 H A W (𝓜 .mem) (𝓡 .run) κs qs bounds a are fits 𝓣
     (cited 𝓤 H (tripleOf 𝓤 H A read.signature (read.spec 𝓤 H A (𝓜 .mem) (𝓡 .run))) 𝓜 𝓡 code.env #slot-records·get read-def.routine code.calls-slot-records·get (read-thm.met 𝓤 H 𝓜 𝓖 𝓡))
-    (cited 𝓤 H (tripleOf 𝓤 H A write.signature (write.spec 𝓤 H A (𝓜 .mem) (𝓡 .run))) 𝓜 𝓡 code.env #slot-records·put-nums write-def.routine code.calls-slot-records·put-nums (write-thm.met 𝓤 H 𝓜 𝓖 𝓡))))))
+    (cited 𝓤 H (tripleOf 𝓤 H A write.signature (write.spec 𝓤 H A (𝓜 .mem) (𝓡 .run))) 𝓜 𝓡 code.env #slot-rows·put-nums write-def.routine code.calls-slot-rows·put-nums (write-thm.met 𝓤 H 𝓜 𝓖 𝓡))))))

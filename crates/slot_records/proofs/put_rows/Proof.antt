@@ -5,6 +5,7 @@ use native.Mathlib.Omega.{arith}
 use borrow.Author.Needs.{needs}
 use lib.ListN.{length, take}
 use Rattle.limits.specs.Limits.{rowWidth}
+use Rattle.slot_records.specs.Records.{slotNums}
 use Rattle.slot_records.specs.Whole.{whole-rows}
 use Rattle.slot_records.proofs.Turns.{Loading}
 use Rattle.slot_records.proofs.Spread.{put-start, put-turn, put-end}
@@ -40,6 +41,7 @@ loop-less : tie.Need-loop-less Inv-loop μ-loop
 loop-less c = omega arith
 
 loop-again : tie.Need-loop-again Inv-loop μ-loop
+unfolding slotNums
 loop-again c = let in-turn = c .before .before .before .before .before in let w = in-turn .before .loop in let start = in-turn .before .before .before in let a = start .args in
     let all : length (a .t2) ≡ 66 = search (needs, start .good) in
     let f = c .before .before .put-nums in
