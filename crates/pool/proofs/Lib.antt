@@ -4,3 +4,5 @@
 pub mod Parts
 -- What the ways through the entry come to, and those of its helpers.
 pub mod Ways
+-- What a call of the face is handed, by name: the walks by hand read it there.
+pub mod Handed
