@@ -26,7 +26,7 @@ pub inner-number :
 unfolding innerM flatO flatB mounted
 inner-number plan g (Mount slots) one two buf l = mount-number plan g (chosenOf (l .bufs)) slots (l .dev)
 inner-number plan g (Adopt slots) one two buf l = adopt-number plan g slots (viewW l)
-inner-number plan g (OpenWrite keep) one two buf l = open-write-number plan g one keep (viewW l)
+inner-number plan g (OpenWrite how) one two buf l = open-write-number plan g one (how .keep) (viewW l)
 inner-number plan g OpenRead one two buf l = open-read-number one (view (l .bufs))
 inner-number plan g (ReadAt slot generation pos) one two buf l = read-at-number plan g slot generation (viewW l) pos buf
 inner-number plan g (WriteAt slot generation pos) one two buf l = write-at-number plan g slot generation (viewW l) pos one

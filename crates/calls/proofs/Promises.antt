@@ -95,9 +95,9 @@ module _ (plan : List ℕ) (g : Geometry) (one two buf : List ℕ) (l : Lent) wh
       let c = mountM plan g (chosenOf (l .bufs)) slots (l .dev) in
       mounted-ready g c (mount-valid plan g (chosenOf (l .bufs)) slots (l .dev) (m .0 .0) (m .0 .1) (m .0 .2)) (p .1 refl)
   inner-stays (Adopt slots) p = still g _ (adopt-valid plan g (viewW l) (fits (Adopt slots) p refl) slots)
-  inner-stays (OpenWrite keep) p =
-      let t = passed g (OpenWrite keep) one two l (p .0) refl in
-      still g _ (open-write-fit plan g (viewW l) (fits (OpenWrite keep) p refl) one keep (text-of one (t .2)))
+  inner-stays (OpenWrite how) p =
+      let t = passed g (OpenWrite how) one two l (p .0) refl in
+      still g _ (open-write-fit plan g (viewW l) (fits (OpenWrite how) p refl) one (how .keep) (text-of one (t .2)))
   inner-stays OpenRead p = is-ready g OpenRead one two l (p .0) refl
   inner-stays (ReadAt slot generation pos) p =
       still g _ (read-at-fit plan g slot generation (viewW l) (fits (ReadAt slot generation pos) p refl) pos buf)
@@ -159,7 +159,7 @@ module _ (plan : List ℕ) (g : Geometry) (one two buf : List ℕ) (l : Lent) wh
   unfolding innerM takesOf flatO flatW viewW Looked
   inner-looks (Mount slots) z w m a = absurd (differs (sym m))
   inner-looks (Adopt slots) z w m a = absurd (a slots refl)
-  inner-looks (OpenWrite keep) z w m a = absurd (differs (sym w))
+  inner-looks (OpenWrite how) z w m a = absurd (differs (sym w))
   inner-looks OpenRead z w m a = as-it-was
   inner-looks (ReadAt slot generation pos) z w m a =
       let r = read-looks plan g slot generation pos buf (viewW l) in

@@ -8,7 +8,6 @@ use device::Geometry;
 use device::Place;
 use limits::DIR_WIDTH;
 use limits::ROW_WIDTH;
-use pool_state::Chosen;
 use pool_state::Pool;
 ghost use mathlib.Core.Path.{_≡_};
 ghost use Rattle.device.specs.Device.{dev};
@@ -43,10 +42,7 @@ fn inner(
 {
     match call {
         Call::Mount { slots } => {
-            let chosen = Chosen {
-                rows: nums.len() / ROW_WIDTH,
-                dir_rows: dirs.len() / DIR_WIDTH,
-            };
+            let chosen = pool_state::choose(nums.len() / ROW_WIDTH, dirs.len() / DIR_WIDTH);
             let d = mount::mount_rows(
                 bytes,
                 phys,

@@ -69,7 +69,7 @@ module _ (plan : List ℕ) (g : Geometry) where
   innerM (Mount slots) one two buf l =
       quiet buf (mounted (mountM plan g (chosenOf (l .bufs)) slots (l .dev)))
   innerM (Adopt slots) one two buf l = quiet buf (flatO (adoptM plan g slots (viewW l)))
-  innerM (OpenWrite keep) one two buf l = opened buf (flatO (openWriteM plan g one keep (viewW l)))
+  innerM (OpenWrite how) one two buf l = opened buf (flatO (openWriteM plan g one (how .keep) (viewW l)))
   innerM OpenRead one two buf l = reading buf l (openReadM one (view (l .bufs)))
   innerM (ReadAt slot generation pos) one two buf l = filled (flatO (readAtM plan g slot generation pos buf (viewW l)))
   innerM (WriteAt slot generation pos) one two buf l = quiet buf (flatO (writeAtM plan g slot generation pos one (viewW l)))

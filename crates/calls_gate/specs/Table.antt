@@ -9,14 +9,21 @@ use Rattle.text.specs.Text.{isText}
 use Rattle.device.specs.declared.Geometry.{Geometry}
 use Rattle.device.specs.Device.{shapeB}
 use Rattle.pool_state.specs.declared.Chosen.{Chosen}
-use Rattle.pool_state.specs.State.{Bufs, bufs}
+use Rattle.pool_state.specs.State.{Bufs, bufs, choosing}
 use Rattle.pool_test.specs.Test.{isPool}
 use Rattle.pool_steps.specs.World.{Lent, lent}
 use Rattle.mount.specs.Mount.{zeroPool}
 use Rattle.calls_gate.specs.declared.Call.{Call}
 use Rattle.calls_gate.specs.declared.Call.the-variants.{Mount, Adopt, OpenWrite, OpenRead, ReadAt, WriteAt, SetLen, FileLen}
 use Rattle.calls_gate.specs.declared.Call.the-variants.{Sync, SyncDir, Rename, RemoveFile, CreateDirAll, ReadDir, Exists, Metadata}
+use Rattle.calls_gate.specs.declared.Opening.{Opening}
 use Rattle.calls_gate.specs.declared.Takes.{Takes}
+
+-- ---- how a file is opened for writing
+
+-- With what it holds kept, or truncated, and nothing else asked: every other option comes to a caller through this one.
+abbrev pub opening : Bool → Opening
+opening keep = record { keep = keep }
 
 -- ---- the table
 
@@ -27,7 +34,7 @@ takes m f s w = record { mounts = m; first = f; second = s; writes = w }
 unfoldable pub takesOf : Call → Takes
 takesOf (Mount slots) = takes true false false false
 takesOf (Adopt slots) = takes false false false false
-takesOf (OpenWrite keep) = takes false true false true
+takesOf (OpenWrite how) = takes false true false true
 takesOf OpenRead = takes false true false false
 takesOf (ReadAt slot generation pos) = takes false false false false
 takesOf (WriteAt slot generation pos) = takes false false false true
@@ -53,7 +60,7 @@ dirRows dirs = length dirs / dirWidth
 
 -- What a mount chooses: as many rows as it is lent.
 abbrev pub chosenOf : Bufs → Chosen
-chosenOf b = record { rows = slotRows (b .nums); «dir_rows» = dirRows (b .dirs) }
+chosenOf b = choosing (slotRows (b .nums)) (dirRows (b .dirs))
 
 -- Row buffers of the right shape: not "more than 64 slot rows or 256 directory rows", and each buffer is so many rows long.
 unfoldable pub rowsB : List ℕ → List ℕ → List ℕ → Bool

@@ -11,7 +11,7 @@ ghost use mathlib.Core.Path.{_≡_};
 ghost use Rattle.pool_state.specs.State.{bufs};
 ghost use Rattle.pool_steps.specs.World.{before};
 ghost use Rattle.calls_gate.specs.Answers.{numberOf, answerOf};
-ghost use Rattle.calls_gate.specs.Table.{takes, takesOf, rowsB, textIf, refusalOf, refusedB};
+ghost use Rattle.calls_gate.specs.Table.{opening, takes, takesOf, rowsB, textIf, refusalOf, refusedB};
 ghost use Rattle.calls_gate.specs.Replies.{silently};
 
 // ---- answers
@@ -80,6 +80,18 @@ pub fn answer_of(out: u8) -> Answer
 
 // ---- calls
 
+// How a file is opened for writing: with what it holds kept, or truncated.
+pub struct Opening {
+    pub keep: bool,
+}
+
+// An opening that keeps or truncates, and asks nothing else.
+pub fn keeping(keep: bool) -> Opening
+    ensures { λ r. ⌜ r ≡ opening keep ⌝ }
+{
+    Opening { keep: keep }
+}
+
 // A call with its numbers. Beside it come two runs of bytes and a buffer: `first` is the path, or the bytes that are written; `second` is
 // the path that a file is renamed to; `buf` is what a read or a listing fills.
 pub enum Call {
@@ -90,7 +102,7 @@ pub enum Call {
         slots: usize,
     },
     OpenWrite {
-        keep: bool,
+        how: Opening,
     },
     OpenRead,
     ReadAt {
@@ -170,7 +182,7 @@ pub fn takes_of(call: Call) -> Takes
     match call {
         Call::Mount { slots } => row(true, false, false, false),
         Call::Adopt { slots } => row(false, false, false, false),
-        Call::OpenWrite { keep } => row(false, true, false, true),
+        Call::OpenWrite { how } => row(false, true, false, true),
         Call::OpenRead => row(false, true, false, false),
         Call::ReadAt {
             slot,

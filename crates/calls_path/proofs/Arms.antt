@@ -53,7 +53,7 @@ pub is-on-path : (c : Call) → OneOf onPath (tagOf Ca.the-type c) → takesOf c
 unfolding takesOf
 is-on-path (Mount slots) k = absurd (miss onPath 0 tt k)
 is-on-path (Adopt slots) k = absurd (miss onPath 1 tt k)
-is-on-path (OpenWrite keep) k = refl
+is-on-path (OpenWrite how) k = refl
 is-on-path OpenRead k = refl
 is-on-path (ReadAt slot generation pos) k = absurd (miss onPath 4 tt k)
 is-on-path (WriteAt slot generation pos) k = absurd (miss onPath 5 tt k)
@@ -75,7 +75,7 @@ pub no-other : (c : Call) → OneOf offPath (tagOf Ca.the-type c) → takesOf c 
 unfolding takesOf
 no-other (Mount slots) k q = differs q
 no-other (Adopt slots) k q = differs q
-no-other (OpenWrite keep) k q = miss offPath 2 tt k
+no-other (OpenWrite how) k q = miss offPath 2 tt k
 no-other OpenRead k q = miss offPath 3 tt k
 no-other (ReadAt slot generation pos) k q = differs q
 no-other (WriteAt slot generation pos) k q = differs q

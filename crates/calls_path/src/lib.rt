@@ -66,7 +66,7 @@ pub fn on_path(
         (before bytes phys place nums names dirs pool) ⌝ }
 {
     match call {
-        Call::OpenWrite { keep } => {
+        Call::OpenWrite { how } => {
             let d = inner_open::open_write(
                 bytes,
                 phys,
@@ -78,7 +78,7 @@ pub fn on_path(
                 dirs,
                 pool,
                 first,
-                keep,
+                how.keep,
             );
             let after = d.place;
             let left = d.pool;

@@ -12,7 +12,7 @@ use Rattle.header.specs.declared.Header.{Header}
 use Rattle.header.specs.declared.Decoded.{Decoded}
 use Rattle.header.specs.declared.Decoded.the-variants.{Absent, Found}
 use Rattle.pool_state.specs.declared.Pool.{Pool}
-use Rattle.pool_state.specs.State.{State, bufs, view}
+use Rattle.pool_state.specs.State.{State, bufs, view, choosing}
 use Rattle.pool_test.specs.Test.{isPool}
 use Rattle.inner_open.specs.Files.{openReadM}
 
@@ -86,7 +86,7 @@ parentCall path out =
 -- The record of these counts, with an empty queue.
 abbrev pub countedPool : ℕ → ℕ → ℕ → ℕ → ℕ → Pool
 countedPool rows dirRows held dirsHeld counter = record {
-  chosen = record { rows = rows; «dir_rows» = dirRows };
+  chosen = choosing rows dirRows;
   held = held;
   dirs = dirsHeld;
   counter = counter;

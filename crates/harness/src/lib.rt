@@ -3,7 +3,6 @@
 // too small. Where an answer has a value, it is number * 2^32 + value.
 use header::Decoded;
 use header::Header;
-use pool_state::Chosen;
 use pool_state::Pool;
 ghost use mathlib.Core.Path.{_≡_};
 ghost use Prim.Native.Nat.{_≤_};
@@ -241,7 +240,7 @@ fn counted(rows: usize, dir_rows: usize, held: usize, dirs_held: usize, counter:
     ensures { λ r. ⌜ r ≡ countedPool rows «dir_rows» held «dirs_held» counter ⌝ }
 {
     Pool {
-        chosen: Chosen { rows, dir_rows },
+        chosen: pool_state::choose(rows, dir_rows),
         held,
         dirs: dirs_held,
         counter,

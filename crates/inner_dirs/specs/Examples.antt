@@ -9,7 +9,7 @@ use Rattle.path.specs.Path.{grow, cut, split, idle, names, opening, components,
 use Rattle.device.specs.Device.{dev, turn, after, writeM, headerWriteM}
 use Rattle.slot_rows.specs.Rows.{file, bound, isDirty, pathOf, lenOf, holds, find}
 use Rattle.dir_rows.specs.Dirs.{hasPath, absent, joined}
-use Rattle.pool_state.specs.State.{State}
+use Rattle.pool_state.specs.State.{State, choosing}
 use Rattle.pool_state.specs.Changes.{withDirs}
 use Rattle.pool_steps.specs.World.{World, world}
 use Rattle.pool_steps.specs.Steps.{putM, syncRowM}
@@ -19,7 +19,7 @@ use Rattle.inner_dirs.specs.Folders.{createDirAllM, existsM, metadataM, 
 small : State
 small =
     record {
-      chosen = record { rows = 2; «dir_rows» = 3 };
+      chosen = choosing 2 3;
       rows = bound (97 ∷ []) (file 1 7 false) ∷ bound (98 ∷ []) (file 2 0 true) ∷ [];
       dirs = (97 ∷ []) ∷ (99 ∷ []) ∷ [];
       queue = [];
@@ -110,7 +110,7 @@ two : World
 two =
     world (dev [] [] (record { at = 0; last = 0 }))
     (record {
-      chosen = record { rows = 2; «dir_rows» = 0 };
+      chosen = choosing 2 0;
       rows = bound (97 ∷ []) (file 1 0 true) ∷ bound (98 ∷ []) (file 2 0 true) ∷ [];
       dirs = [];
       queue = [];

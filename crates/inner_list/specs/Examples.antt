@@ -9,14 +9,14 @@ use Rattle.lists.specs.Sort.{keep, insert, sort}
 use Rattle.path.specs.Path.{grow, cut, split, idle, names, opening, components, samePath, init, isRoot, hasParent, isParent, slash, join, normal, pathOrder}
 use Rattle.slot_rows.specs.Rows.{file, unbound, bound, isBound, pathOf}
 use Rattle.dir_rows.specs.Dirs.{hasPath}
-use Rattle.pool_state.specs.State.{State}
+use Rattle.pool_state.specs.State.{State, choosing}
 use Rattle.row_order.specs.Spans.{pathBefore, inOrder}
 use Rattle.inner_list.specs.Listing.{isChild, filesIn, dirsIn, entry, listingOf, listing, fitted, readDirM}
 
 -- a pool with the files `a/c`, `a//b`, `a.b` and the directories `a`, `a/d`, `/` and the empty path
 held : State
 held = record {
-  chosen = record { rows = 4; «dir_rows» = 4 };
+  chosen = choosing 4 4;
   rows = bound (97 ∷ 47 ∷ 99 ∷ []) (file 1 0 false)
       ∷ bound (97 ∷ 47 ∷ 47 ∷ 98 ∷ []) (file 2 0 false)
       ∷ bound (97 ∷ 46 ∷ 98 ∷ []) (file 3 0 false)

@@ -12,8 +12,10 @@ use Rattle.device.specs.declared.Geometry.{Geometry}
 use Rattle.pool_steps.specs.World.{Lent}
 use Rattle.calls_gate.specs.declared.Call.{Call}
 use Rattle.calls_gate.specs.declared.Call.the-variants.{OpenWrite, OpenRead, Sync, Rename, RemoveFile}
+use Rattle.calls_gate.specs.declared.Opening.{Opening}
 use Rattle.calls_gate.specs.declared.Told.{Told}
 use Rattle.calls_gate.specs.Replies.{Came, came}
+use Rattle.calls_gate.specs.Table.{opening}
 use Rattle.calls_gate.specs.Calls.{callP}
 use Rattle.output.specs.Writer.{Shown, poured}
 use Rattle.line_words.specs.declared.Command as command
@@ -42,12 +44,13 @@ module _ (l : Lent) (out : List ℕ) (x : Came) (n : ℕ) (f : n ≡ x .number) 
   unfolding numberT prints
   ends c one two e h = rw (← e) (ap (λ (y : Shown). printed y (x .left)) (h ∙ ap (λ (k : ℕ). poured (endText k) out) f))
 
-  pub creates : (path : List ℕ) {s : Shown} → x ≡ onCard (OpenWrite false) path [] l
+  pub creates : (path : List ℕ) {s : Shown} (h : Opening) → h ≡ opening false → x ≡ onCard (OpenWrite h) path [] l
       → s ≡ poured (openText n (x .told .slot) (x .told .generation) (x .told .len)) out → printed s (x .left) ≡ prints (createT path l) out
   unfolding createT prints
-  creates path e h =
+  creates path h t e p =
       let q : (k : ℕ) → List ℕ = λ k. openText k (x .told .slot) (x .told .generation) (x .told .len) in
-      rw (← e) (ap (λ (y : Shown). printed y (x .left)) (h ∙ ap (λ (k : ℕ). poured (q k) out) f))
+      let d = e ∙ ap (λ (y : Opening). onCard (OpenWrite y) path [] l) t in
+      rw (← d) (ap (λ (y : Shown). printed y (x .left)) (p ∙ ap (λ (k : ℕ). poured (q k) out) f))
 
   module _ (path : List ℕ) (e : x ≡ onCard OpenRead path [] l) where
     pub sync-no : {s : Shown} → (n ≡ 0 → ⊥) → s ≡ poured (noText n) out → printed s (x .left) ≡ prints (syncT path l) out

@@ -8,6 +8,7 @@ use Rattle.pool_steps.specs.World.{Lent}
 use Rattle.calls_gate.specs.declared.Call.{Call}
 use Rattle.calls_gate.specs.declared.Call.the-variants.{OpenWrite, OpenRead, Sync, Rename, RemoveFile}
 use Rattle.calls_gate.specs.Replies.{Came}
+use Rattle.calls_gate.specs.Table.{opening}
 use Rattle.calls_gate.specs.Calls.{callP}
 use Rattle.output.specs.Writer.{Shown, poured}
 use Rattle.line_words.specs.Commands.{Request, create, sync, remove, move, dump, what, requestOf}
@@ -46,7 +47,7 @@ numberT c one two l = byNumber (onCard c one two l)
 
 -- "`create P` (truncating open)"
 unfoldable pub createT : List ℕ → Lent → Response
-createT path l = byHandle (onCard (OpenWrite false) path [] l)
+createT path l = byHandle (onCard (OpenWrite (opening false)) path [] l)
 
 -- "`sync` opens for reading, then syncs."
 unfoldable pub syncT : List ℕ → Lent → Response

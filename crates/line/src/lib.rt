@@ -122,7 +122,9 @@ fn create(
         printed (shown (now (out .exit)) (r .len)) (after bytes phys (r .place) nums names dirs (r .pool))
         ≡ prints (createT (now (path .entry)) (before bytes phys place nums names dirs pool)) (now (out .entry)) ⌝ }
 {
-    let call = Call::OpenWrite { keep: false };
+    let call = Call::OpenWrite {
+        how: calls_gate::keeping(false),
+    };
     let done = ask(bytes, phys, place, nums, names, dirs, pool, call, path, b"");
     let answer = done.answer;
     let told = done.told;

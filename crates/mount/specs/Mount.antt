@@ -11,7 +11,7 @@ use Rattle.device.specs.declared.Geometry.{Geometry}
 use Rattle.device.specs.Device.{Dev, dev}
 use Rattle.pool_state.specs.declared.Chosen.{Chosen}
 use Rattle.pool_state.specs.declared.Pool.{Pool}
-use Rattle.pool_state.specs.State.{State, Bufs, bufs}
+use Rattle.pool_state.specs.State.{State, Bufs, bufs, choosing}
 use Rattle.pool_steps.specs.World.{World, world, Lent, lent, flatW}
 use Rattle.pool_steps.specs.Steps.{releaseM}
 use Rattle.pool_steps.specs.Outcome.{Outcome, only, None}
@@ -75,7 +75,7 @@ mountM plan g h k d = adoptM plan g k (world d (emptyState h))
 
 -- "at mount the record and rows are zero": the record and the buffers that a refused mount leaves.
 abbrev pub zeroPool : Pool
-zeroPool = record { chosen = record { rows = 0; «dir_rows» = 0 }; held = 0; dirs = 0; counter = 0; free = 0; queue = replicate 64 0 }
+zeroPool = record { chosen = choosing 0 0; held = 0; dirs = 0; counter = 0; free = 0; queue = replicate 64 0 }
 
 abbrev pub zeroBufs : Chosen → Bufs
 zeroBufs h = bufs zeroPool (replicate (h .rows * rowWidth) 0) (replicate (h .rows * maxPath) 0) (replicate (h .«dir_rows» * dirWidth) 0)

@@ -174,10 +174,7 @@ pub fn zero() -> Pool
     ensures { λ r. ⌜ r ≡ zeroPool ⌝ }
 {
     Pool {
-        chosen: Chosen {
-            rows: 0,
-            dir_rows: 0,
-        },
+        chosen: pool_state::choose(0, 0),
         held: 0,
         dirs: 0,
         counter: 0,

@@ -37,7 +37,9 @@ fn main() {
         &mut names,
         &mut dirs,
         mounted,
-        Call::OpenWrite { keep: false },
+        Call::OpenWrite {
+            how: calls_gate::keeping(false),
+        },
         b"a/b",
     );
     let mut k = 0;

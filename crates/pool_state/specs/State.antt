@@ -19,6 +19,10 @@ use Rattle.pool_state.specs.declared.Pool.{Pool}
 
 -- ---- what a pool holds
 
+-- So many slot rows and directory rows, and nothing else chosen: every other choice comes to a caller through this one.
+abbrev pub choosing : ℕ → ℕ → Chosen
+choosing rows dirRows = record { rows = rows; «dir_rows» = dirRows }
+
 -- What was chosen at mount, slot rows and directory rows, the free queue, and the counter: the next generation.
 pub record State : Type 0 where
   pub chosen : Chosen

@@ -4,12 +4,23 @@
 ghost use mathlib.Core.Path.{_≡_};
 ghost use Prim.Native.Nat.{_^_, _<_};
 ghost use Rattle.limits.specs.Limits.{lastCounter};
+ghost use Rattle.pool_state.specs.State.{choosing};
 ghost use Rattle.pool_state.specs.Queue.{pushed, shifted, popped, ticked};
 
 // What was chosen at mount: how many slot rows and how many directory rows are lent.
 pub struct Chosen {
     pub rows: usize,
     pub dir_rows: usize,
+}
+
+// So many rows of each, and nothing else chosen.
+pub fn choose(rows: usize, dir_rows: usize) -> Chosen
+    ensures { λ r. ⌜ r ≡ choosing rows «dir_rows» ⌝ }
+{
+    Chosen {
+        rows: rows,
+        dir_rows: dir_rows,
+    }
 }
 
 // What was chosen; the rows held, of slots and of directories; the next generation; the first `free` cells of `queue` are the free slots,

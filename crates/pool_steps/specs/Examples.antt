@@ -3,7 +3,7 @@ use mathlib.Core.Path.{_≡_, refl}
 use mathlib.Core.Bool.{true, false}
 use mathlib.Core.List.{[], _∷_}
 use Rattle.slot_rows.specs.Rows.{file, unbound, bound}
-use Rattle.pool_state.specs.State.{State}
+use Rattle.pool_state.specs.State.{State, choosing}
 use Rattle.pool_state.specs.Queue.{queued, spent}
 use Rattle.pool_state.specs.Changes.{withRow}
 use Rattle.pool_steps.specs.Steps.{unbinds, released}
@@ -12,7 +12,7 @@ use Rattle.pool_steps.specs.Steps.{unbinds, released}
 three : State
 three =
     record {
-      chosen = record { rows = 4; «dir_rows» = 0 };
+      chosen = choosing 4 0;
       rows = bound (97 ∷ []) (file 5 0 false) ∷ bound (98 ∷ []) (file 6 9 true) ∷ unbound 0 ∷ [];
       dirs = [];
       queue = 2 ∷ [];

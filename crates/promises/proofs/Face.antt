@@ -15,7 +15,7 @@ use Rattle.slot_records.specs.declared.Slot.{Slot}
 use Rattle.slot_records.specs.Records.{numsOf, slotsOf}
 use Rattle.slot_records.specs.SameNumbers.{slots-nums, length-nums}
 use Rattle.pool_state.specs.declared.Chosen.{Chosen}
-use Rattle.pool_state.specs.State.{bufs}
+use Rattle.pool_state.specs.State.{bufs, choosing}
 use Rattle.pool_steps.specs.World.{World, Lent, lent, flatW}
 use Rattle.pool_steps.proofs.Stays.{world-is}
 use Rattle.pool_steps.specs.Outcome.{Outcome, None, only, flatO}
@@ -107,11 +107,11 @@ module _ (t : Trial) (G : Given t) (few : t .chosen .«dir_rows» ≤ 256) where
 
     -- so they are what the trial chose
     abbrev lent-rows : Chosen
-    lent-rows = record { rows = slotRows (numsOf (r .rows)); «dir_rows» = dirRows (r .dirs) }
+    lent-rows = choosing (slotRows (numsOf (r .rows))) (dirRows (r .dirs))
 
     choice : lent-rows ≡ t .chosen
     choice =
-        let chose : ℕ → ℕ → Chosen = λ a b. record { rows = a; «dir_rows» = b } in
+        let chose : ℕ → ℕ → Chosen = λ a b. choosing a b in
         ap₂ chose slot-count dir-count
 
     rows-fine : rowsB (numsOf (r .rows)) (r .names) (r .dirs) ≡ true

@@ -28,7 +28,7 @@ use Rattle.mount.specs.Mount.{installed, drain, moved, emptyState, mountM}
 use Rattle.mount.specs.Mount as Mount
 use Rattle.inner_open.specs.Files.{isFile}
 use Rattle.calls_gate.specs.declared.Call.the-variants.{OpenWrite}
-use Rattle.calls_gate.specs.Table.{dirRows}
+use Rattle.calls_gate.specs.Table.{opening, dirRows}
 use Rattle.calls_gate.specs.Replies as replies
 use Rattle.calls_gate.specs.Calls.{callP}
 use Rattle.promises.specs.Demand3.{headerAt, Untouched, Registered, reading, surveyed, standing}
@@ -193,7 +193,7 @@ module _ (m : Mounting) (R : HasRoom m) where
 
     blank-opens : (plan path second buf : List ℕ) (keep : Bool) → isText path ≡ true → length path ≤ maxPath
         → length (ancestors path) ≤ dirRows (m .dirs)
-        → Untouched plan 1 (mount m .left .dev .place) → callP plan (g m) (OpenWrite keep) path second buf (mount m .left) .number ≡ 0
+        → Untouched plan 1 (mount m .left .dev .place) → callP plan (g m) (OpenWrite (opening keep)) path second buf (mount m .left) .number ≡ 0
     unfolding P1
     blank-opens plan path second buf keep t short h calm =
         p1 (setting lost low plan second buf) path keep .0 short (record { text = t; new = not-there path; dirs = fits path h })

@@ -30,7 +30,7 @@ use Rattle.pool_steps.specs.Outcome.{Outcome, flatO}
 use Rattle.inner_handle.specs.Handles.{isLive, Filling, readPart}
 use Rattle.inner_open.specs.Files.{isFile}
 use Rattle.calls_gate.specs.declared.Call.the-variants.{Mount, OpenWrite, ReadAt, Rename}
-use Rattle.calls_gate.specs.Table.{slotRows, dirRows, rowsB}
+use Rattle.calls_gate.specs.Table.{opening, slotRows, dirRows, rowsB}
 use Rattle.calls_gate.specs.Replies.{telling, nothing, Came, came}
 use Rattle.calls_gate.specs.Calls.{callP}
 use Rattle.promises.specs.Demand3.{headerAt, Untouched, Holds, Registered}
@@ -126,7 +126,7 @@ pub record Able (c : Setting) : Type 0 where
 
 module _ (c : Setting) (path : List ℕ) (keep : Bool) where
   abbrev pub opened : Came
-  opened = callP (c .plan) (c .geometry) (OpenWrite keep) path (c .second) (c .buf) (c .lent)
+  opened = callP (c .plan) (c .geometry) (OpenWrite (opening keep)) path (c .second) (c .buf) (c .lent)
 
   -- It opens: 0, with a handle of the first free slot under the next generation, and this slot is the file's.
   abbrev pub slot : ℕ
@@ -214,7 +214,7 @@ module _ (m : Mounting) where
       → ((j : ℕ) → j < m .k → wants (head m j) ≤ lastCounter) → Apart
       → (mount m .number ≡ 0)
       × ((plan path second buf : List ℕ) (keep : Bool) (j : ℕ) → length path ≤ maxPath → NewFile path (held m) → j < m .k → Claimless m j
-      → callP plan (m .geometry) (OpenWrite keep) path second buf (mount m .left) ≡ came 9 nothing (mount m .left) buf)
+      → callP plan (m .geometry) (OpenWrite (opening keep)) path second buf (mount m .left) ≡ came 9 nothing (mount m .left) buf)
 
   -- "P7 2^63 gets 9 at mount", and so does every higher generation, whatever the other headers are.
   unfoldable pub P7 : Type 0
@@ -251,4 +251,4 @@ FromBlank = (m : Mounting) → HasRoom m → 0 < m .k → ((i : ℕ) → i < m .
     → (mount m .number ≡ 0)
     × ((plan path second buf : List ℕ) (keep : Bool) → isText path ≡ true → length path ≤ maxPath → length (ancestors path) ≤ dirRows (m .dirs)
     → Untouched plan 1 (mount m .left .dev .place)
-    → callP plan (m .geometry) (OpenWrite keep) path second buf (mount m .left) .number ≡ 0)
+    → callP plan (m .geometry) (OpenWrite (opening keep)) path second buf (mount m .left) .number ≡ 0)

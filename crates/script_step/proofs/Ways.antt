@@ -22,6 +22,7 @@ use Rattle.calls_gate.specs.declared.Call.the-variants.{Mount, Adopt, OpenWrite
 use Rattle.calls_gate.specs.declared.Reply.{Reply}
 use Rattle.calls_gate.specs.Answers.{numberOf}
 use Rattle.calls_gate.specs.Replies.{Came}
+use Rattle.calls_gate.specs.Table.{opening}
 use Rattle.calls_gate.specs.Calls.{callP}
 use Rattle.script_step.specs.Operate.{bit, onHandle, onPath, callOf, answerM, room, saidOf, answeredM, opM, Reached, reached, spoken}
 
@@ -68,7 +69,7 @@ module _ (o : Op) where
     is-adopt h = rw (ne-eqb _ _ a, eq-eqb _ _ h)
 
     module _ (b : o .code ≡ 2 → ⊥) where
-      pub is-open-write : o .code ≡ 3 → OpenWrite (not (eqb (o .n) 0)) ≡ callOf o
+      pub is-open-write : o .code ≡ 3 → OpenWrite (opening (not (eqb (o .n) 0))) ≡ callOf o
       unfolding callOf
       is-open-write h = rw (ne-eqb _ _ a, ne-eqb _ _ b, eq-eqb _ _ h)
 

@@ -15,6 +15,7 @@ use Rattle.calls_gate.specs.declared.Call.the-variants.{Mount, Adopt, OpenWrite
 use Rattle.calls_gate.specs.declared.Call.the-variants.{Sync, SyncDir, Rename, RemoveFile, CreateDirAll, ReadDir, Exists, Metadata}
 use Rattle.calls_gate.specs.declared.Told.{Told}
 use Rattle.calls_gate.specs.Replies.{Came}
+use Rattle.calls_gate.specs.Table.{opening}
 use Rattle.calls_gate.specs.Calls.{callP}
 
 -- ---- the table
@@ -44,7 +45,7 @@ unfoldable pub callOf : Op → Call
 callOf o =
     cond (eqb (o .code) 1) (Mount (o .n))
     (cond (eqb (o .code) 2) (Adopt (o .n))
-    (cond (eqb (o .code) 3) (OpenWrite (not (eqb (o .n) 0)))
+    (cond (eqb (o .code) 3) (OpenWrite (opening (not (eqb (o .n) 0))))
     (cond (eqb (o .code) 4) OpenRead
     (cond (leb (o .code) 9) (onHandle o) (onPath (o .code))))))
 

@@ -94,7 +94,9 @@ fn call_of(op: Op) -> Call
         return Call::Adopt { slots: op.n };
     }
     if code == 3 {
-        return Call::OpenWrite { keep: op.n != 0 };
+        return Call::OpenWrite {
+            how: calls_gate::keeping(op.n != 0),
+        };
     }
     if code == 4 {
         return Call::OpenRead;

@@ -1,30 +1,45 @@
 -- One arm for each call: `ready` or `mounts-on` is what it needs, and `arm` says that the one that is asked for was made. Any other call is on
 -- a path.
+use Prim.Native.Nat.{ℕ}
+use mathlib.Core.List.{List}
+use Rattle.device.specs.declared.Geometry.{Geometry}
+use Rattle.device.specs.Device.{Dev}
+use Rattle.pool_state.specs.declared.Chosen.{Chosen}
+use Rattle.pool_steps.specs.World.{Lent}
+use Rattle.pool_steps.specs.Outcome.{Outcome, None}
+use Rattle.mount.specs.Mount.{mountM, mounted}
 use Rattle.calls_gate.specs.Table.{takesOf}
 use Rattle.calls_gate.specs.Calls.{filled, measured, innerM}
 use Rattle.calls_gate.proofs.Passed.{ready, mounts-on}
 use Rattle.calls_path.proofs.Arms.{arm, quiet-is, is-on-path}
-use mathlib.Core.Path.{refl, ap}
+use mathlib.Core.Path.{_≡_, refl, ap, _∙_}
 use borrow.Author.Needs.{needs}
 use Rattle.calls.proofs.inner.Statement.{statement}
 use Rattle.calls.proofs.inner.Tie as tie
 
+-- a mount of what was chosen is one of what the maker says
+as-chosen : (plan : List ℕ) (g : Geometry) (h i : Chosen) → h ≡ i → (k : ℕ) (d : Dev) (x : Outcome None Lent)
+    → x ≡ mounted (mountM plan g h k d) → x ≡ mounted (mountM plan g i k d)
+as-chosen plan g h i e k d x q = q ∙ ap (λ (y : Chosen). mounted (mountM plan g y k d)) e
+
 mount-rows-requires : tie.Need-mount-rows-requires
 unfolding takesOf
 mount-rows-requires c κs =
-    let at-call = c .before .before .before .before .before .before in
+    let at-choose = c .before .before .before .before .before in
+    let at-call = at-choose .before .before in
     let after-start = at-call .before .before .before .before .before .before .before in
     let at-start = after-start .before .before .before .before in
-    mounts-on _ _ _ _ _ _ (at-start .pre) (at-call .call .given .1) refl
+    rw (at-choose .choose .ensures) (mounts-on _ _ _ _ _ _ (at-start .pre) (at-call .call .given .1) refl)
 
 returns : tie.Need-returns
 unfolding innerM
 returns c =
     let after-mount-rows = c .before .before .before .before .before .before .before in
     let at-mount-rows = after-mount-rows .before .before .before .before .before .before in
-    let at-call = at-mount-rows .before .before .before .before .before .before .before in
+    let at-choose = at-mount-rows .before .before .before .before .before .before in
+    let at-call = at-choose .before .before in
     arm _ _ _ _ _ _ _ _ _ (at-call .call .given .1)
-    (quiet-is _ _ _ _ _ _ _ _ _ _ (c .quiet .ensures) _ (at-mount-rows .mount-rows .ensures))
+    (quiet-is _ _ _ _ _ _ _ _ _ _ (c .quiet .ensures) _ (as-chosen _ _ _ _ (at-choose .choose .ensures) _ _ _ (at-mount-rows .mount-rows .ensures)))
 
 adopt-requires : tie.Need-adopt-requires
 unfolding takesOf
@@ -139,6 +154,7 @@ inner-spec =
     tie.close
     (tie.spec
     (λ c. search needs)
+    (λ c κs. tt)
     mount-rows-requires
     (λ c κs. tt)
     (λ c.

@@ -10,6 +10,9 @@ at-ask c =
     let at-nums = at-told .before .before .before .before .before .before in
     at-nums .before .before .before .before .before
 
+keeping-requires : tie.Need-keeping-requires
+keeping-requires c κs = search needs
+
 slice-aggregate-ask : tie.Need-slice-aggregate-ask
 slice-aggregate-ask c = search needs
 
@@ -44,12 +47,14 @@ returns : tie.Need-returns
 returns c =
     let at-say-open = c .before .before in
     let at-number = at-say-open .before .before in
-    creates _ _ _ _ (at-number .number .ensures) _ (at-ask c .ask .ensures) (at-say-open .say-open .ensures)
+    let at-keeping = at-ask c .before .before .before .before .before .before .before in
+    creates _ _ _ _ (at-number .number .ensures) _ _ (at-keeping .keeping .ensures) (at-ask c .ask .ensures) (at-say-open .say-open .ensures)
 
 pub create-spec : {M : Type 1} → statement M
 create-spec =
     tie.close
     (tie.spec
+    keeping-requires
     slice-aggregate-ask
     ask-requires
     number-requires

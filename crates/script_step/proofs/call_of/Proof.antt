@@ -1,5 +1,6 @@
 -- Each way out by what its tests say.
-use mathlib.Core.Path.{_∙_}
+use mathlib.Core.Path.{ap, _∙_}
+use Rattle.calls_gate.specs.declared.Call.the-variants.{OpenWrite}
 use Rattle.script_step.proofs.Ways.{is-mount, is-adopt, is-open-write, is-open-read, is-on-handle, is-on-path}
 use borrow.Author.Needs.{needs}
 use Rattle.script_step.proofs.call_of.Statement.{statement}
@@ -15,8 +16,13 @@ returns c = is-mount _ (c .if1 .taken)
 returns-2 : tie.Need-returns-2
 returns-2 c = is-adopt _ (c .before .if1 .left) (c .if2 .taken)
 
+keeping-requires : tie.Need-keeping-requires
+keeping-requires c κs = search needs
+
 returns-3 : tie.Need-returns-3
-returns-3 c = is-open-write _ (c .before .before .before .if1 .left) (c .before .before .if2 .left) (c .before .if3 .taken)
+returns-3 c =
+    let at-if3 = c .before .before in
+    ap OpenWrite (c .keeping .ensures) ∙ is-open-write _ (at-if3 .before .before .if1 .left) (at-if3 .before .if2 .left) (at-if3 .if3 .taken)
 
 returns-4 : tie.Need-returns-4
 returns-4 c = is-open-read _ (c .before .before .before .if1 .left) (c .before .before .if2 .left) (c .before .if3 .left) (c .if4 .taken)
@@ -39,6 +45,7 @@ call-of-spec =
     (tie.spec
     returns
     returns-2
+    keeping-requires
     returns-3
     returns-4
     on-handle-requires
