@@ -35,7 +35,7 @@ use Rattle.inner_open.specs.Files.{created, createM, admitsNew, openNewM, openW
 use Rattle.inner_open.proofs.Stays.{first-held, open-write-fit}
 use Rattle.inner_rename.specs.Rename.{frontM, renameM}
 use Rattle.calls_gate.specs.declared.Call.the-variants.{OpenWrite, ReadAt, Rename}
-use Rattle.calls_gate.specs.Table.{opening, takesOf, textIf}
+use Rattle.calls_gate.specs.Table.{opening as opening-of, takesOf, textIf}
 use Rattle.calls_gate.specs.Replies.{Came}
 use Rattle.calls_gate.specs.Calls.{quiet, opened, filled, innerM, callP}
 use Rattle.promises.specs.Demand3.{Untouched}
@@ -134,14 +134,14 @@ module _ (c : Setting) where
 
   module _ (path : List ℕ) (keep : Bool) (t : isText path ≡ true) where
     abbrev call : Came
-    call = callP (c .plan) (c .geometry) (OpenWrite (opening keep)) path (c .second) (c .buf) (c .lent)
+    call = callP (c .plan) (c .geometry) (OpenWrite (opening-of keep)) path (c .second) (c .buf) (c .lent)
 
     abbrev inner : Outcome Handle World
     inner = openWriteM (c .plan) (c .geometry) path keep w
 
     open-is : call ≡ opened (c .buf) (flatO inner)
     unfolding takesOf textIf innerM
-    open-is = on-pool (c .plan) (c .geometry) (OpenWrite (opening keep)) path (c .second) (c .buf) (c .lent) R refl t refl
+    open-is = on-pool (c .plan) (c .geometry) (OpenWrite (opening-of keep)) path (c .second) (c .buf) (c .lent) R refl t refl
 
     -- an open that is refused
     open-refused : (n : ℕ) → inner ≡ outcome n noHandle w → call ≡ unchanged c n

@@ -65,6 +65,9 @@ slice-aggregate-ask-10 c = search needs
 slice-aggregate-ask-11 : tie.Need-slice-aggregate-ask-11 Inv-loop μ-loop
 slice-aggregate-ask-11 c = search needs
 
+keeping-requires : tie.Need-keeping-requires Inv-loop μ-loop
+keeping-requires c κs = search needs
+
 slice-aggregate-ask-12 : tie.Need-slice-aggregate-ask-12 Inv-loop μ-loop
 slice-aggregate-ask-12 c = search needs
 
@@ -127,6 +130,7 @@ main-spec =
     slice-aggregate-ask-9
     slice-aggregate-ask-10
     slice-aggregate-ask-11
+    keeping-requires
     slice-aggregate-ask-12
     ask-requires-2
     loop-holds
