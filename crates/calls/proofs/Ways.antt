@@ -18,7 +18,7 @@ use Rattle.calls_gate.specs.Replies.{nothing, silently, Came, came, replied}
 use Rattle.calls_gate.specs.Table.{refusalOf, refusedB}
 use Rattle.calls_gate.specs.Calls.{innerM, refusedM, callP}
 use Rattle.calls_gate.proofs.Tests.{refusal-number}
-use Rattle.calls.proofs.Numbers.{inner-number}
+use Rattle.calls_gate.proofs.Numbers.{inner-number}
 
 module _ (plan : List ℕ) (g : Geometry) (c : Call) (one two buf : List ℕ) (l : Lent) (n : ℕ) (e : n ≡ refusalOf g c one two l) where
   pub refuses : (n ≡ 0 → ⊥) → (r : Reply) (m s d : List ℕ) → r ≡ silently (answerOf n) (l .dev .place) (r .pool)

@@ -1,5 +1,5 @@
--- The answers and their numbers; what comes back from a call; the table of what each call is tested for, and the tests; and what the
--- sixteen calls come to.
+-- The answers and their numbers; what comes back from a call; the table of what each call is tested for, and the tests; what the sixteen
+-- calls come to, and what is promised of all of them.
 
 -- The answers of the public calls, and 01's number of each ("Numbers that come back"); 0 is a call that was done.
 pub mod Answers
@@ -9,3 +9,5 @@ pub mod Replies
 pub mod Table
 -- The sixteen public calls as one function.
 pub mod Calls
+-- What is promised of every call at once.
+pub mod Promises

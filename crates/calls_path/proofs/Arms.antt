@@ -1,11 +1,7 @@
 -- An arm of a match over the calls: what it came to is what the call that is asked for comes to.
 use Prim.Native.Nat.{ℕ}
-use native.Mathlib.Omega.{arith}
-use mathlib.Core.Path.{_≡_, refl, sym, ap, _∙_}
-use mathlib.Core.Bool.{Bool, true, false}
-use mathlib.Core.List.{List, [], _∷_}
-use types.Run.{OneOf, miss}
-use denote.Enum.Declared.{tagOf}
+use mathlib.Core.Path.{_≡_, sym, ap, _∙_}
+use mathlib.Core.List.{List}
 use Rattle.device.specs.declared.Geometry.{Geometry}
 use Rattle.device.specs.declared.Place.{Place}
 use Rattle.device.specs.Device.{dev}
@@ -14,10 +10,6 @@ use Rattle.pool_state.specs.State.{Bufs, bufs}
 use Rattle.pool_steps.specs.World.{Lent, lent}
 use Rattle.pool_steps.specs.Outcome.{Outcome, outcome, None}
 use Rattle.calls_gate.specs.declared.Call.{Call}
-use Rattle.calls_gate.specs.declared.Call.the-variants.{Mount, Adopt, OpenWrite, OpenRead, ReadAt, WriteAt, SetLen, FileLen}
-use Rattle.calls_gate.specs.declared.Call.the-variants.{Sync, SyncDir, Rename, RemoveFile, CreateDirAll, ReadDir, Exists, Metadata}
-use Rattle.calls_gate.specs.Table.{takesOf}
-use Rattle.calls_gate.proofs.Call as Ca
 use Rattle.calls_gate.specs.Replies.{Came, came}
 use Rattle.calls_gate.specs.Calls.{quiet, made, innerM}
 use Rattle.calls_path.specs.declared.Went.{Went}
@@ -39,53 +31,3 @@ module _ (r : Went) (n : ℕ) (p : Place) (q : Pool) (b h m s d buf : List ℕ) 
   pub made-is : (q₀ : Pool) (d₀ : List ℕ) (o : Outcome None Bufs) → outcome n tt (bufs q m s d) ≡ o
       → given ≡ made buf (lent (dev b h p) (bufs q₀ m s d₀)) o
   made-is q₀ d₀ o f = rw e (ap (made buf (lent (dev b h p) (bufs q₀ m s d₀))) f)
-
--- ---- the arm of all other calls
-
--- The calls on a path, and the others, by their positions in `Call`.
-abbrev onPath : List ℕ
-onPath = 2 ∷ 3 ∷ 9 ∷ 10 ∷ 11 ∷ 12 ∷ 13 ∷ 14 ∷ 15 ∷ []
-
-abbrev offPath : List ℕ
-offPath = 0 ∷ 1 ∷ 4 ∷ 5 ∷ 6 ∷ 7 ∷ 8 ∷ []
-
-pub is-on-path : (c : Call) → OneOf onPath (tagOf Ca.the-type c) → takesOf c .first ≡ true
-unfolding takesOf
-is-on-path (Mount slots) k = absurd (miss onPath 0 tt k)
-is-on-path (Adopt slots) k = absurd (miss onPath 1 tt k)
-is-on-path (OpenWrite how) k = refl
-is-on-path OpenRead k = refl
-is-on-path (ReadAt slot generation pos) k = absurd (miss onPath 4 tt k)
-is-on-path (WriteAt slot generation pos) k = absurd (miss onPath 5 tt k)
-is-on-path (SetLen slot generation len) k = absurd (miss onPath 6 tt k)
-is-on-path (FileLen slot generation) k = absurd (miss onPath 7 tt k)
-is-on-path (Sync slot generation) k = absurd (miss onPath 8 tt k)
-is-on-path SyncDir k = refl
-is-on-path Rename k = refl
-is-on-path RemoveFile k = refl
-is-on-path CreateDirAll k = refl
-is-on-path ReadDir k = refl
-is-on-path Exists k = refl
-is-on-path Metadata k = refl
-
-differs : _≡_ {A = Bool} false true → ⊥
-differs q = let y : _≡_ {A = ℕ} 0 1 = cc in omega arith
-
-pub no-other : (c : Call) → OneOf offPath (tagOf Ca.the-type c) → takesOf c .first ≡ true → ⊥
-unfolding takesOf
-no-other (Mount slots) k q = differs q
-no-other (Adopt slots) k q = differs q
-no-other (OpenWrite how) k q = miss offPath 2 tt k
-no-other OpenRead k q = miss offPath 3 tt k
-no-other (ReadAt slot generation pos) k q = differs q
-no-other (WriteAt slot generation pos) k q = differs q
-no-other (SetLen slot generation len) k q = differs q
-no-other (FileLen slot generation) k q = differs q
-no-other (Sync slot generation) k q = differs q
-no-other SyncDir k q = miss offPath 9 tt k
-no-other Rename k q = miss offPath 10 tt k
-no-other RemoveFile k q = miss offPath 11 tt k
-no-other CreateDirAll k q = miss offPath 12 tt k
-no-other ReadDir k q = miss offPath 13 tt k
-no-other Exists k q = miss offPath 14 tt k
-no-other Metadata k q = miss offPath 15 tt k

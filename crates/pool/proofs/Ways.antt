@@ -26,7 +26,7 @@ use Rattle.calls_gate.specs.declared.Takes.{Takes}
 use Rattle.calls_gate.specs.declared.Reply.{Reply}
 use Rattle.calls_gate.specs.Replies.{nothing, Came, came, replied, silently}
 use Rattle.calls_gate.specs.Calls.{refusedM, callP}
-use Rattle.calls.proofs.Promises.{many-rows}
+use Rattle.calls_gate.proofs.Promises.{many-rows}
 
 -- ---- whether the call is a mount
 

@@ -25,8 +25,8 @@ use Rattle.calls_gate.specs.declared.Call.the-variants.{Adopt}
 use Rattle.calls_gate.specs.Table.{takesOf, slotRows, dirRows, rowsB, textIf}
 use Rattle.calls_gate.specs.Replies.{Came, came}
 use Rattle.calls_gate.specs.Calls.{innerM}
-use Rattle.calls.specs.Promises.{End}
-use Rattle.calls.proofs.Promises.{one-outcome}
+use Rattle.calls_gate.specs.Promises.{End}
+use Rattle.calls_gate.proofs.Promises.{one-outcome}
 use Rattle.pool.specs.Face.{Left, lentOf, Entered}
 use Rattle.promises.specs.Demand3.{Trial, emptyTwo, firstPart, both, Given}
 use Rattle.promises.specs.Buffers.{TheCodeObeys}

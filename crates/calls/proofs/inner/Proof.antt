@@ -11,7 +11,8 @@ use Rattle.mount.specs.Mount.{mountM, mounted}
 use Rattle.calls_gate.specs.Table.{takesOf}
 use Rattle.calls_gate.specs.Calls.{filled, measured, innerM}
 use Rattle.calls_gate.proofs.Passed.{ready, mounts-on}
-use Rattle.calls_path.proofs.Arms.{arm, quiet-is, is-on-path}
+use Rattle.calls_gate.proofs.OnPath.{is-on-path}
+use Rattle.calls_path.proofs.Arms.{arm, quiet-is}
 use mathlib.Core.Path.{_≡_, refl, ap, _∙_}
 use borrow.Author.Needs.{needs}
 use Rattle.calls.proofs.inner.Statement.{statement}

@@ -2,7 +2,8 @@
 use Rattle.calls_gate.specs.Table.{takesOf}
 use Rattle.calls_gate.specs.Calls.{opened, reading, listed, found, described, innerM}
 use Rattle.calls_gate.proofs.Passed.{ready}
-use Rattle.calls_path.proofs.Arms.{arm, quiet-is, made-is, no-other}
+use Rattle.calls_gate.proofs.OnPath.{no-other}
+use Rattle.calls_path.proofs.Arms.{arm, quiet-is, made-is}
 use mathlib.Core.Path.{refl, ap}
 use borrow.Author.Needs.{needs}
 use Rattle.calls_path.proofs.on_path.Statement.{statement}

@@ -30,16 +30,16 @@ use Rattle.inner_open.proofs.Stays.{open-write-fit, remove-fit}
 use Rattle.inner_rename.proofs.Stays.{rename-fit}
 use Rattle.inner_dirs.specs.Folders.{flatB, tooLong, createDirAllM}
 use Rattle.inner_dirs.proofs.Stays.{create-dir-all-valid, sync-dir-fit}
 use Rattle.calls_gate.specs.declared.Answer.{Answer}
 use Rattle.calls_gate.specs.declared.Call.{Call}
 use Rattle.calls_gate.specs.declared.Call.the-variants.{Mount, Adopt, OpenWrite, OpenRead, ReadAt, WriteAt, SetLen, FileLen}
 use Rattle.calls_gate.specs.declared.Call.the-variants.{Sync, SyncDir, Rename, RemoveFile, CreateDirAll, ReadDir, Exists, Metadata}
 use Rattle.calls_gate.specs.Answers.{numberOf, answerOf, answer-back}
 use Rattle.calls_gate.specs.Replies.{Came}
 use Rattle.calls_gate.specs.Table.{takesOf, slotRows, dirRows, chosenOf, rowsB, mountable, refusalOf, refusedB}
 use Rattle.calls_gate.proofs.Passed.{passed, is-ready, mounts-on, text-of}
 use Rattle.calls_gate.specs.Calls.{innerM, refusedM, callP}
-use Rattle.calls.specs.Promises.{End, ends, OneOutcome, CallStays, Leaves, LooksLeave, ManyRows}
+use Rattle.calls_gate.specs.Promises.{End, ends, OneOutcome, CallStays, Leaves, LooksLeave, ManyRows}
 
 -- ---- "any two outcomes it allows are the same"
 
