@@ -16,7 +16,7 @@ use Rattle.slot_rows.specs.Rows.{Row, none, at, isBound, pathOf, rowsOf, Flat}
 use Rattle.slot_rows.proofs.InBuffers.{length-rows, name-part}
 use Rattle.dir_rows.specs.Rows.{dirAt, dirsOf}
 use Rattle.dir_rows.proofs.InBuffer.{length-dirs, dir-short, dir-part}
-use Rattle.row_order.specs.Spans.{span, spelled, Inside, AllInside, fileSpan, dirSpan, slotOf, dirNumber, fileSpans, dirSpans}
+use Rattle.row_order.specs.Spans.{span, spelled, Inside, AllInside, fileSpan, dirSpan, slotOf, fileSpans, dirSpans}
 
 -- ---- a loop that picks
 
@@ -182,7 +182,3 @@ module _ (m : ℕ) (b : List ℕ) (h : m * dirWidth ≤ length b) where
           let z : j * dirWidth + 2 + length (dirAt b j) - (j * dirWidth + 2) ≡ length (dirAt b j) = omega arith in
           rw r (rw z at (dir-part b j _ refl))
       go false e = rw (List·getD-eq-default ds [] {n = j} (omega (arith, ltb-false j m e, length-dirs b m)))
-
-  pub dir-number : (j : ℕ) → dirNumber (dirSpan ds j) ≡ j
-  unfolding dirSpan
-  dir-number j = omega (arith, row-short j)

@@ -54,10 +54,6 @@ dirSpan ds j = span (j * dirWidth + 2) (length (getD ds j []))
 abbrev pub slotOf : ℕ → ℕ
 slotOf x = x / 512 / maxPath
 
--- The row whose spelling the part x of the directory rows is.
-abbrev pub dirNumber : ℕ → ℕ
-dirNumber x = x / 512 / dirWidth
-
 -- All files, by slot.
 unfoldable pub fileSpans : List Row → List ℕ
 fileSpans rs = map (fileSpan rs) (keep (λ (i : ℕ). isBound (at rs i)) (range 0 (length rs)))

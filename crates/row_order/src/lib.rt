@@ -12,7 +12,7 @@ ghost use Rattle.limits.specs.Limits.{dirWidth};
 ghost use Rattle.lists.specs.Sort.{sort};
 ghost use Rattle.slot_rows.specs.Rows.{rowsOf, Flat};
 ghost use Rattle.dir_rows.specs.Rows.{dirsOf};
-ghost use Rattle.row_order.specs.Spans.{span, before, Inside, AllInside, fileSpan, dirSpan, slotOf, dirNumber, fileSpans, dirSpans};
+ghost use Rattle.row_order.specs.Spans.{span, before, Inside, AllInside, fileSpan, dirSpan, slotOf, fileSpans, dirSpans};
 ghost use Rattle.row_order.specs.Risen.{Risen, place};
 
 // The part of a buffer that starts at a place and has a length, as one number.
@@ -114,13 +114,6 @@ pub fn slot_of(x: u32) -> usize
     ensures { λ r. ⌜ r ≡ slotOf x ⌝ }
 {
     (x / 512) as usize / MAX_PATH
-}
-
-// The directory row whose spelling is the part x.
-pub fn dir_number(x: u32) -> usize
-    ensures { λ r. ⌜ r ≡ dirNumber x ⌝ }
-{
-    (x / 512) as usize / DIR_WIDTH
 }
 
 // Writes the paths of all files, by slot, to the front of spans, and says how many they are.
