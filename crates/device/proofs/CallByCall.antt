@@ -17,7 +17,7 @@ use Rattle.lists.specs.Blocks.{pad}
 use Rattle.le.specs.Le.{laid}
 use Rattle.le.proofs.Parts.{length-laid, take-laid, laid-nothing}
 use Rattle.device.specs.declared.Geometry.{Geometry}
-use Rattle.device.specs.Device.{Dev, Shape, turn, after, came, share, stops, short, stores, physOf, given, seen, grown, storedBytes, storedPhys, stored, writeM, cut, truncateM, flushed, flushM, headerWriteM, dataWriteM, dataTruncateM}
+use Rattle.device.specs.Device.{Dev, Shape, turn, onward, noted, share, stops, short, stores, physOf, given, seen, grown, storedBytes, storedPhys, stored, writeM, cut, truncateM, flushed, flushM, headerWriteM, dataWriteM, dataTruncateM}
 use Rattle.device.proofs.Shapes.{shape-means, shape-set, shape-stored}
 use Rattle.device.specs.Slots.{partOf, part-laid, part-other, front-grown, front-laid, share-le}
 use Rattle.device.specs.AnyDevice.{Call, look, header, flush, truncate, store, load, slotOf, sound, reads, quiet, onFile, Inside, Whole, moved}
@@ -125,28 +125,28 @@ module _ (plan : List ℕ) (g : Geometry) where
   -- a write failed, or stored what it may
   abbrev Wrote : ℕ → ℕ → List ℕ → Dev → Dev → Type 0
   Wrote i pos src d x =
-      ((x ≡ came plan 10 d) × (lastOf x ≡ 10))
-      ⊎ ((x ≡ came plan (short (count pos src d) (length src)) (stored g i pos (take (count pos src d) src) d)) × (lastOf x ≡ short (count pos src d) (length src)) × (pos ≤ g .size))
+      ((x ≡ noted plan 10 d) × (lastOf x ≡ 10))
+      ⊎ ((x ≡ noted plan (short (count pos src d) (length src)) (stored g i pos (take (count pos src d) src) d)) × (lastOf x ≡ short (count pos src d) (length src)) × (pos ≤ g .size))
 
   write-out : (i pos : ℕ) (src : List ℕ) (d : Dev) → Wrote i pos src d (writeM plan g i pos src d)
-  unfolding writeM after
+  unfolding writeM onward
   write-out i pos src d = go (eqb (turn plan (d .place)) 1) (ltb (g .size) pos) refl
     where
       go : (s t : Bool) → ltb (g .size) pos ≡ t
-          → Wrote i pos src d (cond s (came plan 10 d) (cond t (came plan 10 d) (came plan (short (count pos src d) (length src)) (stored g i pos (take (count pos src d) src) d))))
+          → Wrote i pos src d (cond s (noted plan 10 d) (cond t (noted plan 10 d) (noted plan (short (count pos src d) (length src)) (stored g i pos (take (count pos src d) src) d))))
       go true t f = inl (refl, refl)
       go false true f = inl (refl, refl)
       go false false f = inr (refl, refl, ltb-false (g .size) pos f)
 
   -- a truncate failed, or set the length
   abbrev Cut : ℕ → ℕ → Dev → Dev → Type 0
-  Cut i len d x = ((x ≡ came plan 10 d) × (lastOf x ≡ 10)) ⊎ ((x ≡ came plan 0 (cut g i len d)) × (lastOf x ≡ 0) × (len ≤ g .size))
+  Cut i len d x = ((x ≡ noted plan 10 d) × (lastOf x ≡ 10)) ⊎ ((x ≡ noted plan 0 (cut g i len d)) × (lastOf x ≡ 0) × (len ≤ g .size))
 
   cut-out : (i len : ℕ) (d : Dev) → Cut i len d (truncateM plan g i len d)
-  unfolding truncateM after
+  unfolding truncateM onward
   cut-out i len d = go (stops (turn plan (d .place))) (ltb (g .size) len) refl
     where
-      go : (s t : Bool) → ltb (g .size) len ≡ t → Cut i len d (cond s (came plan 10 d) (cond t (came plan 10 d) (came plan 0 (cut g i len d))))
+      go : (s t : Bool) → ltb (g .size) len ≡ t → Cut i len d (cond s (noted plan 10 d) (cond t (noted plan 10 d) (noted plan 0 (cut g i len d))))
       go true t f = inl (refl, refl)
       go false true f = inl (refl, refl)
       go false false f = inr (refl, refl, ltb-false (g .size) len f)
@@ -259,7 +259,7 @@ module _ (plan : List ℕ) (g : Geometry) where
 
   -- ---- what stays, by call
 
-  same-came : (d x : Dev) (o j : ℕ) → x ≡ came plan o d → Same d x j
+  same-came : (d x : Dev) (o j : ℕ) → x ≡ noted plan o d → Same d x j
   same-came d x o j e = (ap (λ (y : Dev). partOf (g .size) j (y .bytes)) e, ap (λ (y : Dev). physOf j y) e)
 
   same-as : (d x y : Dev) (j : ℕ) → x ≡ y → Same d y j → Same d x j
@@ -321,7 +321,7 @@ module _ (plan : List ℕ) (g : Geometry) where
       go (inr w) = ap (λ (x : Dev). length (x .phys)) (w .0) ∙ length-set (d .phys) i _
 
   write-moves : (d : Dev) (i pos : ℕ) (ys : List ℕ) → writeM plan g i pos ys d .place .at ≡ moved (length plan) (d .place .at)
-  unfolding after moved
+  unfolding onward moved
   write-moves d i pos ys = go (write-out i pos ys d)
     where
       go : Wrote i pos ys d (writeM plan g i pos ys d) → writeM plan g i pos ys d .place .at ≡ moved (length plan) (d .place .at)
@@ -372,7 +372,7 @@ module _ (plan : List ℕ) (g : Geometry) where
       go (inr w) = ap (λ (x : Dev). length (x .phys)) (w .0) ∙ length-set (d .phys) i len
 
   truncate-moves : (d : Dev) (i len : ℕ) → truncateM plan g i len d .place .at ≡ moved (length plan) (d .place .at)
-  unfolding after moved
+  unfolding onward moved
   truncate-moves d i len = go (cut-out i len d)
     where
       go : Cut i len d (truncateM plan g i len d) → truncateM plan g i len d .place .at ≡ moved (length plan) (d .place .at)
@@ -440,7 +440,7 @@ module _ (plan : List ℕ) (g : Geometry) where
   call-slots d (load i at n) = refl
 
   pub call-moves : (d : Dev) (c : Call) → callM plan g c d .place .at ≡ moved (length plan) (d .place .at)
-  unfolding headerWriteM dataWriteM dataTruncateM flushM flushed seen after moved
+  unfolding headerWriteM dataWriteM dataTruncateM flushM flushed seen onward moved
   call-moves d (look i) = refl
   call-moves d (header i ys) = write-moves d i 0 ys
   call-moves d (flush i) = refl
@@ -478,7 +478,7 @@ module _ (plan : List ℕ) (g : Geometry) where
   ok-last o e = zero-fine o (eqb-true o 0 e)
 
   pub call-ok : (d : Dev) (c : Call) → okM plan g c d ≡ true → eqb (lastOf (callM plan g c d)) 10 ≡ false
-  unfolding seen after
+  unfolding seen onward
   call-ok d (look i) e = rw (read-last (turn plan (d .place)) 512 e)
   call-ok d (header i ys) e = ok-last (lastOf (headerWriteM plan g i ys d)) e
   call-ok d (flush i) e = ok-last (lastOf (flushM plan d)) e
@@ -487,7 +487,7 @@ module _ (plan : List ℕ) (g : Geometry) where
   call-ok d (load i at n) e = rw (read-last (turn plan (d .place)) n e)
 
   call-given : (d : Dev) (c : Call) → eqb (lastOf (callM plan g c d)) 10 ≡ true → givenM plan g c d ≡ []
-  unfolding seen after given
+  unfolding seen onward given
   call-given d (look i) f = rw (cond-ten (eqb (turn plan (d .place)) 1) f)
   call-given d (header i ys) f = refl
   call-given d (flush i) f = refl
@@ -510,7 +510,7 @@ module _ (plan : List ℕ) (g : Geometry) where
             let n = count 0 ys d in
             let e : take n ys ≡ ys = take-all n ys (short-zero n (length ys) (ap (λ (k : ℕ). eqb k 0) (sym (w .1)) ∙ f)) in
             let l : length (blockOf g i d) ≤ length ys = omega (arith, block-short) in
-            ap (blockOf g i) (w .0 ∙ ap (λ (x : List ℕ). came plan (short n (length ys)) (stored g i 0 x d)) e)
+            ap (blockOf g i) (w .0 ∙ ap (λ (x : List ℕ). noted plan (short n (length ys)) (stored g i 0 x d)) e)
             ∙ top-block d i s r ys (omega arith)
             ∙ ap (λ (x : List ℕ). ys ++ x) (drop-of-length-le (blockOf g i d) l)
             ∙ append-nil ys
@@ -529,7 +529,7 @@ module _ (plan : List ℕ) (g : Geometry) where
             let l : n < length ys = short-some n (length ys) (ap (λ (k : ℕ). eqb k 0) (sym (w .1)) ∙ f) in
             let h : n ≡ 256 = ap (share byte) m ∙ half byte (omega (arith, ap (share byte) m)) in
             let k : length (take 256 ys) ≡ 256 = length-take-le 256 ys (omega arith) in
-            ap (blockOf g i) (w .0 ∙ ap (λ (x : ℕ). came plan (short n (length ys)) (stored g i 0 (take x ys) d)) h)
+            ap (blockOf g i) (w .0 ∙ ap (λ (x : ℕ). noted plan (short n (length ys)) (stored g i 0 (take x ys) d)) h)
             ∙ top-block d i s r (take 256 ys) (omega arith)
             ∙ ap (λ (x : ℕ). take 256 ys ++ drop x (blockOf g i d)) k
 
@@ -584,17 +584,17 @@ module _ (plan : List ℕ) (g : Geometry) where
     calm-read n = rw (calm-one _ e, calm-share _ n e, eq-eqb n n refl)
 
     calm-write : (i pos : ℕ) (ys : List ℕ) → pos + length ys ≤ g .size → eqb (lastOf (writeM plan g i pos ys d)) 0 ≡ true
-    unfolding writeM stores after
+    unfolding writeM stores onward
     calm-write i pos ys l =
         let m : min (length ys) (g .size - pos) ≡ length ys = omega arith in
         rw (calm-one _ e, le-ltb (g .size) pos (omega arith), m, calm-share _ (length ys) e, short-none (length ys) (length ys) (omega arith))
 
     calm-truncate : (i len : ℕ) → len ≤ g .size → eqb (lastOf (truncateM plan g i len d)) 0 ≡ true
-    unfolding truncateM after
+    unfolding truncateM onward
     calm-truncate i len l = rw (e, le-ltb (g .size) len l)
 
   pub call-calm : (d : Dev) (c : Call) → Shape g (d .bytes) (d .phys) → sound c ≡ true → stops (turn plan (d .place)) ≡ false → Inside (g .size) c → okM plan g c d ≡ true
-  unfolding headerWriteM dataWriteM dataTruncateM flushM flushed after
+  unfolding headerWriteM dataWriteM dataTruncateM flushM flushed onward
   call-calm d (look i) s o e h = calm-read d e 512
   call-calm d (header i ys) s o e h = calm-write d e i 0 ys (omega (arith, s .least, eqb-true (length ys) 512 o))
   call-calm d (flush i) s o e h = rw e
@@ -695,7 +695,7 @@ module _ (plan : List ℕ) (g : Geometry) where
 
   pub half-given : (d : Dev) (i : ℕ) → wholeM plan g d (look i) ≡ false → failedM plan g d (look i) ≡ false
       → givenBy plan g d (look i) ≡ take (length (blockOf g i d) / 2) (blockOf g i d)
-  unfolding seen after
+  unfolding seen onward
   half-given d i f t =
       let k = did-may d (look i) t in
       let m = may-be d (look i) (k .0) in

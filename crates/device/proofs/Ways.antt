@@ -16,7 +16,7 @@ use Rattle.device.specs.declared.Place.{Place}
 use Rattle.device.specs.declared.Geometry.{Geometry}
 use Rattle.device.specs.declared.Got.{Got}
 use Rattle.device.specs.Slots.{share-le}
-use Rattle.device.specs.Device.{dev, Shape, Slotted, turn, after, came, share, stops, short, stores, physOf, given, read, readM, grown, storedBytes, storedPhys, stored, writeM, cut, truncateM, flushed, seen, headerReadM, headerWriteM, dataReadM, dataWriteM, dataTruncateM}
+use Rattle.device.specs.Device.{dev, Shape, Slotted, turn, onward, noted, share, stops, short, stores, physOf, given, read, readM, grown, storedBytes, storedPhys, stored, writeM, cut, truncateM, flushed, seen, headerReadM, headerWriteM, dataReadM, dataWriteM, dataTruncateM}
 
 -- a part that was lent to a copier of src as long as it, `&mut d[a..a + src.len()]`, is back
 pub copied-back : (a : ℕ) (d src : List ℕ) {ys : List ℕ} → a + length src ≤ length d
@@ -57,20 +57,20 @@ pub stops-not : (byte : ℕ) → (byte ≡ 1 → ⊥) → (byte ≡ 2 → ⊥) �
 unfolding stops
 stops-not byte n m = rw (ne-eqb byte 1 n, ne-eqb byte 2 m)
 
-pub flush-out : (plan : List ℕ) (p : Place) {r : Place} {byte : ℕ} (t : Bool) → byte ≡ turn plan p → stops byte ≡ t → r ≡ after plan (cond t 10 0) p → r ≡ flushed plan p
+pub flush-out : (plan : List ℕ) (p : Place) {r : Place} {byte : ℕ} (t : Bool) → byte ≡ turn plan p → stops byte ≡ t → r ≡ onward plan (cond t 10 0) p → r ≡ flushed plan p
 unfolding flushed
-flush-out plan p t e q f = f ∙ ap (λ (x : Bool). after plan (cond x 10 0) p) (sym q ∙ ap stops e)
+flush-out plan p t e q f = f ∙ ap (λ (x : Bool). onward plan (cond x 10 0) p) (sym q ∙ ap stops e)
 
 -- a flush that did not fail
-pub flush-ok : (plan : List ℕ) (p : Place) {r : Place} → r ≡ flushed plan p → r .last ≡ 0 → (stops (turn plan p) ≡ false) × (r ≡ after plan 0 p)
-unfolding flushed after
+pub flush-ok : (plan : List ℕ) (p : Place) {r : Place} → r ≡ flushed plan p → r .last ≡ 0 → (stops (turn plan p) ≡ false) × (r ≡ onward plan 0 p)
+unfolding flushed onward
 flush-ok plan p {r} e z = go (stops (turn plan p)) refl
   where
-    go : (t : Bool) → stops (turn plan p) ≡ t → (stops (turn plan p) ≡ false) × (r ≡ after plan 0 p)
+    go : (t : Bool) → stops (turn plan p) ≡ t → (stops (turn plan p) ≡ false) × (r ≡ onward plan 0 p)
     go true q =
         let k : _≡_ {A = ℕ} 10 0 = sym (ap (λ (x : Place). x .last) e ∙ ap (λ (x : Bool). cond x 10 0) q) ∙ z in
         absurd (omega arith)
-    go false q = (q, e ∙ ap (λ (x : Bool). after plan (cond x 10 0) p) q)
+    go false q = (q, e ∙ ap (λ (x : Bool). onward plan (cond x 10 0) p) q)
 
 -- ---- a read
 
@@ -88,21 +88,21 @@ given-past plan g slot pos count b h p l = go (eqb (turn plan p) 1)
 
 module _ (plan : List ℕ) (g : Geometry) (slot pos : ℕ) (dst b h : List ℕ) (p : Place) {byte : ℕ} {r : Place} (t : byte ≡ turn plan p) where
   out : {dst′ ys : List ℕ} {n : ℕ} (x : Bool) → given plan g slot pos (length dst) (dev b h p) ≡ ys → dst′ ≡ laid dst 0 ys → n ≡ length ys
-      → eqb byte 1 ≡ x → r ≡ after plan (cond x 10 0) p → read dst′ (record { count = n; place = r }) ≡ readM plan g slot pos dst (dev b h p)
+      → eqb byte 1 ≡ x → r ≡ onward plan (cond x 10 0) p → read dst′ (record { count = n; place = r }) ≡ readM plan g slot pos dst (dev b h p)
   unfolding readM seen
   out x e f k q s = rw (e, ← t, q) (cc)
 
-  pub read-failed : byte ≡ 1 → r ≡ after plan 10 p → read dst (record { count = 0; place = r }) ≡ readM plan g slot pos dst (dev b h p)
+  pub read-failed : byte ≡ 1 → r ≡ onward plan 10 p → read dst (record { count = 0; place = r }) ≡ readM plan g slot pos dst (dev b h p)
   unfolding given
   read-failed e s = out true (rw (← t, eq-eqb byte 1 e)) (sym (laid-nothing dst 0)) refl (eq-eqb byte 1 e) s
 
-  pub read-past : (byte ≡ 1 → ⊥) → getD h slot 0 ≤ pos → r ≡ after plan 0 p → read dst (record { count = 0; place = r }) ≡ readM plan g slot pos dst (dev b h p)
+  pub read-past : (byte ≡ 1 → ⊥) → getD h slot 0 ≤ pos → r ≡ onward plan 0 p → read dst (record { count = 0; place = r }) ≡ readM plan g slot pos dst (dev b h p)
   read-past ne l s = out false (given-past plan g slot pos (length dst) b h p l) (sym (laid-nothing dst 0)) refl (ne-eqb byte 1 ne) s
 
   -- the part that was lent to the copier is laid over the front
   pub read-done : {dst′ : List ℕ} {n m : ℕ} → (byte ≡ 1 → ⊥) → m ≡ min (length dst) (getD h slot 0 - pos) → n ≡ share byte m → slot * g .size + pos + n ≤ length b
       → (let part : List ℕ = take (slot * g .size + pos + n - (slot * g .size + pos)) (drop (slot * g .size + pos) b) in dst′ ≡ take (length part) part ++ drop (length part) dst)
-      → r ≡ after plan 0 p → read dst′ (record { count = n; place = r }) ≡ readM plan g slot pos dst (dev b h p)
+      → r ≡ onward plan 0 p → read dst′ (record { count = n; place = r }) ≡ readM plan g slot pos dst (dev b h p)
   unfolding given
   read-done {n = n} ne e f l d s =
       let from = slot * g .size + pos in
@@ -113,17 +113,17 @@ module _ (plan : List ℕ) (g : Geometry) (slot pos : ℕ) (dst b h : List ℕ) 
 -- ---- a write
 
 module _ (plan : List ℕ) (g : Geometry) (slot pos : ℕ) (src b h : List ℕ) (p : Place) {byte : ℕ} {r : Place} (t : byte ≡ turn plan p) where
-  pub write-failed : byte ≡ 1 → r ≡ after plan 10 p → dev b h r ≡ writeM plan g slot pos src (dev b h p)
+  pub write-failed : byte ≡ 1 → r ≡ onward plan 10 p → dev b h r ≡ writeM plan g slot pos src (dev b h p)
   unfolding writeM
   write-failed e f = rw (← t, eq-eqb byte 1 e) (ap (λ (x : Place). dev b h x) f)
 
-  pub write-beyond : (byte ≡ 1 → ⊥) → g .size < pos → r ≡ after plan 10 p → dev b h r ≡ writeM plan g slot pos src (dev b h p)
+  pub write-beyond : (byte ≡ 1 → ⊥) → g .size < pos → r ≡ onward plan 10 p → dev b h r ≡ writeM plan g slot pos src (dev b h p)
   unfolding writeM
   write-beyond ne l f = rw (← t, ne-eqb byte 1 ne, lt-ltb (g .size) pos l) (ap (λ (x : Place). dev b h x) f)
 
   pub write-done : {b′ h′ : List ℕ} {n m o : ℕ} → (byte ≡ 1 → ⊥) → pos ≤ g .size → m ≡ min (length src) (g .size - pos) → n ≡ share byte m
       → (b′ ≡ storedBytes (slot * g .size) (getD h slot 0) pos (take n src) b) × (h′ ≡ storedPhys slot pos (length (take n src)) h)
-      → o ≡ short n (length src) → r ≡ after plan o p → dev b′ h′ r ≡ writeM plan g slot pos src (dev b h p)
+      → o ≡ short n (length src) → r ≡ onward plan o p → dev b′ h′ r ≡ writeM plan g slot pos src (dev b h p)
   unfolding writeM stores
   write-done ne l e f s o q = rw (← t, ne-eqb byte 1 ne, le-ltb (g .size) pos l, ← e, ← f) (cc (s .0, s .1))
 
@@ -150,15 +150,15 @@ reach-same h slot pos n l = let e : max (getD h slot 0) (pos + n) ≡ getD h slo
 
 module _ (plan : List ℕ) (g : Geometry) (slot len : ℕ) (b h : List ℕ) (p : Place) {done : Place} (f : done ≡ flushed plan p) where
   pub cut-failed : (done .last ≡ 0 → ⊥) → dev b h done ≡ truncateM plan g slot len (dev b h p)
-  unfolding truncateM flushed after
+  unfolding truncateM flushed onward
   cut-failed ne = go (stops (turn plan p)) refl
     where
       go : (t : Bool) → stops (turn plan p) ≡ t
-          → dev b h done ≡ cond t (came plan 10 (dev b h p)) (cond (ltb (g .size) len) (came plan 10 (dev b h p)) (came plan 0 (cut g slot len (dev b h p))))
-      go true q = ap (λ (x : Place). dev b h x) (f ∙ ap (λ (x : Bool). after plan (cond x 10 0) p) q)
+          → dev b h done ≡ cond t (noted plan 10 (dev b h p)) (cond (ltb (g .size) len) (noted plan 10 (dev b h p)) (noted plan 0 (cut g slot len (dev b h p))))
+      go true q = ap (λ (x : Place). dev b h x) (f ∙ ap (λ (x : Bool). onward plan (cond x 10 0) p) q)
       go false q = absurd (ne (ap (λ (x : Place). x .last) f ∙ ap (λ (x : Bool). cond x 10 0) q))
 
-  pub cut-beyond : {r : Place} → done .last ≡ 0 → g .size < len → r ≡ after plan 10 p → dev b h r ≡ truncateM plan g slot len (dev b h p)
+  pub cut-beyond : {r : Place} → done .last ≡ 0 → g .size < len → r ≡ onward plan 10 p → dev b h r ≡ truncateM plan g slot len (dev b h p)
   unfolding truncateM
   cut-beyond z l e = rw (flush-ok plan p f z .0, lt-ltb (g .size) len l) (ap (λ (x : Place). dev b h x) e)
 

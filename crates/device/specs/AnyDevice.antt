@@ -90,7 +90,7 @@ pub record Device : Type 1 where
   -- of the right shape; how many slots; a slot's bytes, its physical length, and the header block that a read of it gives where the plan leaves it alone
   pub Fit : W → Type 0
   pub slots : W → ℕ
-  pub part : W → ℕ → List ℕ
+  pub slotBytes : W → ℕ → List ℕ
   pub phys : W → ℕ → ℕ
   pub block : W → ℕ → List ℕ
   -- the place in the plan, what the last call came to, and that the plan leaves the next call alone
@@ -103,21 +103,21 @@ pub record Device : Type 1 where
   pub ok : W → Call → Bool
   pub failed : W → Call → Bool
   -- fewer than 512 bytes: short
-  pub block-is : (w : W) (i : ℕ) → block w i ≡ take (min 512 (phys w i)) (part w i)
+  pub block-is : (w : W) (i : ℕ) → block w i ≡ take (min 512 (phys w i)) (slotBytes w i)
   pub block-length : (w : W) (i : ℕ) → Fit w → i < slots w → length (block w i) ≡ min 512 (phys w i)
   -- (a) a header write that is whole, and one that is cut short
   pub written : (w : W) (i : ℕ) (ys : List ℕ) → ok w (header i ys) ≡ true → block (act w (header i ys)) i ≡ ys
   pub torn : (w : W) (i : ℕ) (ys : List ℕ) → ok w (header i ys) ≡ false → failed w (header i ys) ≡ false
       → block (act w (header i ys)) i ≡ take 256 ys ++ drop 256 (block w i)
   -- (a, b, d) a failed call, a call on another slot, a read and a flush leave a slot's bytes and length
-  pub failed-stays : (w : W) (c : Call) (j : ℕ) → failed w c ≡ true → (part (act w c) j ≡ part w j) × (phys (act w c) j ≡ phys w j)
-  pub other-stays : (w : W) (c : Call) (j : ℕ) → j ≢ slotOf c → (part (act w c) j ≡ part w j) × (phys (act w c) j ≡ phys w j)
-  pub quiet-stays : (w : W) (c : Call) (j : ℕ) → quiet c ≡ true → (part (act w c) j ≡ part w j) × (phys (act w c) j ≡ phys w j)
+  pub failed-stays : (w : W) (c : Call) (j : ℕ) → failed w c ≡ true → (slotBytes (act w c) j ≡ slotBytes w j) × (phys (act w c) j ≡ phys w j)
+  pub other-stays : (w : W) (c : Call) (j : ℕ) → j ≢ slotOf c → (slotBytes (act w c) j ≡ slotBytes w j) × (phys (act w c) j ≡ phys w j)
+  pub quiet-stays : (w : W) (c : Call) (j : ℕ) → quiet c ≡ true → (slotBytes (act w c) j ≡ slotBytes w j) × (phys (act w c) j ≡ phys w j)
   -- (c) the shape stays, with its number of slots and their sizes
   pub fit-stays : (w : W) (c : Call) → Fit w → Fit (act w c)
   pub slots-stay : (w : W) (c : Call) → slots (act w c) ≡ slots w
   pub within : (w : W) (i : ℕ) → Fit w → phys w i ≤ size
-  pub part-length : (w : W) (i : ℕ) → Fit w → i < slots w → length (part w i) ≡ size
+  pub slot-bytes-long : (w : W) (i : ℕ) → Fit w → i < slots w → length (slotBytes w i) ≡ size
   -- (e) a write or a truncate of the file leaves the block, filled up with zeros to 512 bytes
   pub file-block : (w : W) (c : Call) → onFile c ≡ true → failed w c ≡ false → block (act w c) (slotOf c) ≡ pad 512 (block w (slotOf c))
   -- (f)
@@ -127,7 +127,7 @@ pub record Device : Type 1 where
   -- what a header read and a read of the file give: all, or the first half, or nothing
   pub looked : (w : W) (i : ℕ) → ok w (look i) ≡ true → given w (look i) ≡ block w i
   pub half-looked : (w : W) (i : ℕ) → ok w (look i) ≡ false → failed w (look i) ≡ false → given w (look i) ≡ take (length (block w i) / 2) (block w i)
-  pub loaded : (w : W) (i at n : ℕ) → ok w (load i at n) ≡ true → given w (load i at n) ≡ take n (drop (512 + at) (take (phys w i) (part w i)))
+  pub loaded : (w : W) (i at n : ℕ) → ok w (load i at n) ≡ true → given w (load i at n) ≡ take n (drop (512 + at) (take (phys w i) (slotBytes w i)))
   pub none-given : (w : W) (c : Call) → failed w c ≡ true → given w c ≡ []
   -- a call that did not fail was of a slot that is there; one that is ok did not fail; the number that it came to says so
   pub did : (w : W) (c : Call) → failed w c ≡ false → Fit w × (slotOf c < slots w) × (sound c ≡ true)
@@ -140,10 +140,10 @@ pub record Device : Type 1 where
 -- ---- what follows for every device
 
 module _ (D : Device) where
-  open Device D using (W, Fit, slots, part, phys, block, place, planned, act, ok, failed, block-is, block-length, failed-stays, other-stays, quiet-stays, fit-stays, slots-stay, file-block, moves, did, ok-did, written)
+  open Device D using (W, Fit, slots, slotBytes, phys, block, place, planned, act, ok, failed, block-is, block-length, failed-stays, other-stays, quiet-stays, fit-stays, slots-stay, file-block, moves, did, ok-did, written)
 
   -- where bytes and length stay, so does the block
-  pub same-block : (w v : W) (j : ℕ) → (part v j ≡ part w j) × (phys v j ≡ phys w j) → block v j ≡ block w j
+  pub same-block : (w v : W) (j : ℕ) → (slotBytes v j ≡ slotBytes w j) × (phys v j ≡ phys w j) → block v j ≡ block w j
   same-block w v j s = block-is v j ∙ ap₂ (λ (n : ℕ) (l : List ℕ). take (min 512 n) l) (s .1) (s .0) ∙ sym (block-is w j)
 
   pub other-block : (w : W) (c : Call) (j : ℕ) → j ≢ slotOf c → block (act w c) j ≡ block w j
@@ -172,7 +172,7 @@ module _ (D : Device) where
   pub file-zeros : (w : W) (c : Call) → onFile c ≡ true → failed w c ≡ false → phys w (slotOf c) ≡ 0 → block (act w c) (slotOf c) ≡ replicate 512 0
   unfolding pad
   file-zeros w c o f z =
-      let e : block w (slotOf c) ≡ [] = block-is w (slotOf c) ∙ ap (λ (n : ℕ). take (min 512 n) (part w (slotOf c))) z in
+      let e : block w (slotOf c) ≡ [] = block-is w (slotOf c) ∙ ap (λ (n : ℕ). take (min 512 n) (slotBytes w (slotOf c))) z in
       file-block w c o f ∙ ap (pad 512) e
 
   -- a slot whose header was written whole has 512 bytes or more

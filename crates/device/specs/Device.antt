@@ -53,11 +53,11 @@ unfoldable pub turn : List ℕ → Place → ℕ
 turn plan p = getD plan (p .at) 0
 
 -- "one small record that each device call moves on; at or past the plan's end it stays as it is"; `o` is what the call came to
-unfoldable pub after : List ℕ → ℕ → Place → Place
-after plan o p = record { at = cond (ltb (p .at) (length plan)) (p .at + 1) (p .at); last = o }
+unfoldable pub onward : List ℕ → ℕ → Place → Place
+onward plan o p = record { at = cond (ltb (p .at) (length plan)) (p .at + 1) (p .at); last = o }
 
-abbrev pub came : List ℕ → ℕ → Dev → Dev
-came plan o d = dev (d .bytes) (d .phys) (after plan o (d .place))
+abbrev pub noted : List ℕ → ℕ → Dev → Dev
+noted plan o d = dev (d .bytes) (d .phys) (onward plan o (d .place))
 
 -- "2: a write stores only the first half of the bytes that it would have stored (rounded down)": how many are moved of n
 unfoldable pub share : ℕ → ℕ → ℕ
@@ -78,7 +78,7 @@ given plan g slot pos count d =
 
 -- the place after a read: it fails by byte 1 alone, and a start past the length gives no bytes
 unfoldable pub seen : List ℕ → Place → Place
-seen plan p = after plan (cond (eqb (turn plan p) 1) 10 0) p
+seen plan p = onward plan (cond (eqb (turn plan p) 1) 10 0) p
 
 -- a buffer that was read into, with the answer
 pub record Read : Type 0 where
@@ -122,9 +122,9 @@ stores byte size pos asked = share byte (min asked (size - pos))
 unfoldable pub writeM : List ℕ → Geometry → ℕ → ℕ → List ℕ → Dev → Dev
 writeM plan g slot pos src d =
     let n = stores (turn plan (d .place)) (g .size) pos (length src) in
-    cond (eqb (turn plan (d .place)) 1) (came plan 10 d)
-    (cond (ltb (g .size) pos) (came plan 10 d)
-    (came plan (short n (length src)) (stored g slot pos (take n src) d)))
+    cond (eqb (turn plan (d .place)) 1) (noted plan 10 d)
+    (cond (ltb (g .size) pos) (noted plan 10 d)
+    (noted plan (short n (length src)) (stored g slot pos (take n src) d)))
 
 -- "it cuts or adds zeros"
 abbrev pub cut : Geometry → ℕ → ℕ → Dev → Dev
@@ -133,13 +133,13 @@ cut g slot len d = dev (grown (slot * g .size) (physOf slot d) len (d .bytes)) (
 -- "Truncate beyond the slot size fails; otherwise .."
 unfoldable pub truncateM : List ℕ → Geometry → ℕ → ℕ → Dev → Dev
 truncateM plan g slot len d =
-    cond (stops (turn plan (d .place))) (came plan 10 d)
-    (cond (ltb (g .size) len) (came plan 10 d)
-    (came plan 0 (cut g slot len d)))
+    cond (stops (turn plan (d .place))) (noted plan 10 d)
+    (cond (ltb (g .size) len) (noted plan 10 d)
+    (noted plan 0 (cut g slot len d)))
 
 -- the place after a flush, and the device
 unfoldable pub flushed : List ℕ → Place → Place
-flushed plan p = after plan (cond (stops (turn plan p)) 10 0) p
+flushed plan p = onward plan (cond (stops (turn plan p)) 10 0) p
 
 unfoldable pub flushM : List ℕ → Dev → Dev
 flushM plan d = dev (d .bytes) (d .phys) (flushed plan (d .place))

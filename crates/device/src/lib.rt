@@ -9,7 +9,7 @@ ghost use lib.ListN.{length, getD, set, replicate};
 ghost use lib.Dec.{leb};
 ghost use Rattle.lists.specs.Runs.{allOf};
 ghost use Rattle.le.specs.Le.{laid};
-ghost use Rattle.device.specs.Device.{Shape, shapeB, Slotted, devBefore, devAfter, turn, after, share, short, grown};
+ghost use Rattle.device.specs.Device.{Shape, shapeB, Slotted, devBefore, devAfter, turn, onward, share, short, grown};
 ghost use Rattle.device.specs.Device.{storedBytes, storedPhys, read, readM, writeM, flushed};
 ghost use Rattle.device.specs.Device.{headerReadM, headerWriteM, dataReadM, dataWriteM, dataTruncateM};
 
@@ -213,7 +213,7 @@ fn turn_of(plan: &[u8], place: Place) -> u8
 
 // The place after a call that came to `last`.
 fn next(plan: &[u8], place: Place, last: u8) -> Place
-    ensures { λ r. ⌜ r ≡ after (now (plan .entry)) last place ⌝ }
+    ensures { λ r. ⌜ r ≡ onward (now (plan .entry)) last place ⌝ }
 {
     let at = place.at;
     if at < plan.len() {

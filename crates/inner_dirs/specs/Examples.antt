@@ -6,7 +6,7 @@ use lib.ListN.{replicate}
 use Rattle.lists.specs.Runs.{range}
 use Rattle.lists.specs.Same.{same}
 use Rattle.path.specs.Path.{grow, cut, split, idle, names, opening, components, samePath, init, isRoot, hasParent, isParent, slash, join, normal, fronts, ancestors}
-use Rattle.device.specs.Device.{dev, turn, after, writeM, headerWriteM}
+use Rattle.device.specs.Device.{dev, turn, onward, writeM, headerWriteM}
 use Rattle.slot_rows.specs.Rows.{file, bound, isDirty, pathOf, lenOf, holds, find}
 use Rattle.dir_rows.specs.Dirs.{hasPath, absent, joined}
 use Rattle.pool_state.specs.State.{State, choosing}
@@ -118,14 +118,14 @@ two =
     })
 
 stopped : syncDirM (1 ∷ []) (record { size = 512 }) [] two .out ≡ 10
-unfolding two syncDirM syncEachM syncOneM syncRowM putM headerWriteM writeM turn after range isDue isDirty pathOf isParent hasParent init isRoot same components opening names idle split cut grow
+unfolding two syncDirM syncEachM syncOneM syncRowM putM headerWriteM writeM turn onward range isDue isDirty pathOf isParent hasParent init isRoot same components opening names idle split cut grow
 stopped = refl
 
 stopped-rows : syncDirM (1 ∷ []) (record { size = 512 }) [] two .left .state .rows ≡ two .state .rows
-unfolding two syncDirM syncEachM syncOneM syncRowM putM headerWriteM writeM turn after range isDue isDirty pathOf isParent hasParent init isRoot same components opening names idle split cut grow
+unfolding two syncDirM syncEachM syncOneM syncRowM putM headerWriteM writeM turn onward range isDue isDirty pathOf isParent hasParent init isRoot same components opening names idle split cut grow
 stopped-rows = refl
 
 -- one device call was made
 stopped-place : syncDirM (1 ∷ []) (record { size = 512 }) [] two .left .dev .place ≡ record { at = 1; last = 10 }
-unfolding two syncDirM syncEachM syncOneM syncRowM putM headerWriteM writeM turn after range isDue isDirty pathOf isParent hasParent init isRoot same components opening names idle split cut grow
+unfolding two syncDirM syncEachM syncOneM syncRowM putM headerWriteM writeM turn onward range isDue isDirty pathOf isParent hasParent init isRoot same components opening names idle split cut grow
 stopped-place = refl

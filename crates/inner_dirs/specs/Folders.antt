@@ -14,7 +14,7 @@ use Rattle.pool_state.specs.State.{State, Bufs, flat}
 use Rattle.pool_state.specs.Changes.{withDirs}
 use Rattle.pool_steps.specs.World.{World}
 use Rattle.pool_steps.specs.Steps.{syncRowM}
-use Rattle.pool_steps.specs.Outcome.{Outcome, outcome, None, came}
+use Rattle.pool_steps.specs.Outcome.{Outcome, outcome, None, byDevice}
 use Rattle.inner_open.specs.Files.{isFile}
 use Rattle.inner_dirs.specs.declared.Meta.{Meta}
 
@@ -62,7 +62,7 @@ isDue path r = cond (isDirty r) (isParent path (pathOf r)) false
 
 -- One slot of it: the header of a file that is due is written and flushed, which makes it clean.
 unfoldable pub syncOneM : List ℕ → Geometry → List ℕ → ℕ → World → Outcome None World
-syncOneM plan g path i w = cond (isDue path (at (w .state .rows) i)) (came (syncRowM plan g i w)) (outcome 0 tt w)
+syncOneM plan g path i w = cond (isDue path (at (w .state .rows) i)) (byDevice (syncRowM plan g i w)) (outcome 0 tt w)
 
 -- ".. stopping at a failure": the next call, if this one came to 0.
 abbrev pub goOn : Outcome None World → (World → Outcome None World) → Outcome None World

@@ -16,7 +16,7 @@ use Rattle.pool_state.specs.Changes.{withRow, with-row-valid, resized-admitted}
 use Rattle.pool_steps.specs.World.{World, world, Lent, viewW, flatW, Fit}
 use Rattle.pool_steps.specs.Steps.{fineM, syncRowM}
 use Rattle.pool_steps.proofs.Stays.{Kept, call-kept, sync-row-fit, lent-stays}
-use Rattle.pool_steps.specs.Outcome.{Outcome, outcome, flatO, None, came}
+use Rattle.pool_steps.specs.Outcome.{Outcome, outcome, flatO, None, byDevice}
 use Rattle.inner_handle.specs.Handles.{isLive, onHandle, Filling, filling, readPart, readAtM, resizedM, writeAtM, setLenM, syncM}
 
 -- A refusal, and any call that changes nothing: the buffers stay.

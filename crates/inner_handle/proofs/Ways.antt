@@ -10,7 +10,7 @@ use borrow.Author.Tests.{eq-eqb, ne-eqb, lt-ltb, le-ltb, le-leb, lt-leb, ltb-fal
 use Rattle.device.specs.declared.Place.{Place}
 use Rattle.device.specs.declared.Geometry.{Geometry}
 use Rattle.device.specs.declared.Got.{Got}
-use Rattle.device.specs.Device.{Dev, dev, Shape, Read, read, turn, after, share, short, stores, flushed, flushM, writeM, dataReadM, dataWriteM, dataTruncateM}
+use Rattle.device.specs.Device.{Dev, dev, Shape, Read, read, turn, onward, share, short, stores, flushed, flushM, writeM, dataReadM, dataWriteM, dataTruncateM}
 use Rattle.device.specs.Device as Device
 use Rattle.slot_rows.specs.Rows.{Row, at, isBound, genOf, lenOf, isDirty, resized, rowsOf, Flat}
 use Rattle.slot_rows.proofs.InBuffers.{length-rows}
@@ -19,7 +19,7 @@ use Rattle.pool_state.specs.Changes.{withRow, row-flat}
 use Rattle.pool_steps.specs.World.{World, Lent, lent, viewW, flatW, Ready}
 use Rattle.pool_steps.specs.Steps.{fineM, syncRowM}
 use Rattle.inner_handle.specs.declared.Len.{Len}
-use Rattle.pool_steps.specs.Outcome.{Outcome, outcome, flatO, None, came}
+use Rattle.pool_steps.specs.Outcome.{Outcome, outcome, flatO, None, byDevice}
 use Rattle.inner_handle.specs.Handles.{isLive, onHandle, fileLenM, filling, readPart, resizedM, writeAtM, setLenM, syncM}
 use Rattle.inner_handle.proofs.Stays.{live-means, stays}
 
@@ -119,14 +119,14 @@ not-short n asked z = go (ltb n asked) refl z
 
 -- a write that was done lies in its slot
 pub write-inside : (plan : List ℕ) (g : Geometry) (slot pos : ℕ) (src : List ℕ) (d e : Dev) → e ≡ dataWriteM plan g slot pos src d → e .place .last ≡ 0 → 512 + pos + length src ≤ g .size
-unfolding dataWriteM writeM after stores
+unfolding dataWriteM writeM onward stores
 write-inside plan g slot pos src d e q z =
     go (eqb (turn plan (d .place)) 1) (ltb (g .size) (512 + pos)) refl (Device.stored g slot (512 + pos) (take n src) d) (sym (ap (λ (x : Dev). x .place .last) q) ∙ z)
   where
     n : ℕ
     n = share (turn plan (d .place)) (min (length src) (g .size - (512 + pos)))
 
-    go : (a b : Bool) → ltb (g .size) (512 + pos) ≡ b → (x : Dev) → cond a (Device.came plan 10 d) (cond b (Device.came plan 10 d) (Device.came plan (short n (length src)) x)) .place .last ≡ 0
+    go : (a b : Bool) → ltb (g .size) (512 + pos) ≡ b → (x : Dev) → cond a (Device.noted plan 10 d) (cond b (Device.noted plan 10 d) (Device.noted plan (short n (length src)) x)) .place .last ≡ 0
         → 512 + pos + length src ≤ g .size
     go true b t x o = absurd (omega arith)
     go false true t x o = absurd (omega arith)
@@ -141,32 +141,32 @@ module _ (g : Geometry) (l : Lent) (R : Ready g l) (i n : ℕ) (e d : Dev) (q : 
   row = resized n true (at (rowsIn b) i)
 
   -- the device call was not done: no row changes
-  pub resize-stopped : (e .place .last ≡ 0 → ⊥) → outcome (e .place .last) tt (lent e b) ≡ flatO (came (resizedM d i n (view b)))
+  pub resize-stopped : (e .place .last ≡ 0 → ⊥) → outcome (e .place .last) tt (lent e b) ≡ flatO (byDevice (resizedM d i n (view b)))
   unfolding resizedM flatO flatW
   resize-stopped ne =
       let k : fineM e ≡ false = ne-eqb _ _ ne in
       let o : lent e b ≡ flatW (resizedM e i n (view b)) = rw k (ap (lent e) (sym (R .pool .canon))) in
-      ap (outcome (e .place .last) tt) o ∙ ap (λ (x : Dev). flatO (came (resizedM x i n (view b)))) q
+      ap (outcome (e .place .last) tt) o ∙ ap (λ (x : Dev). flatO (byDevice (resizedM x i n (view b)))) q
 
   -- it was, and the handle is live still
   pub resize-done : e .place .last ≡ 0 → (live : Bool) → live ≡ true → (x : ℕ) → x ≡ cond live 0 6 → (l₁ : List ℕ)
       → rowsOf l₁ (b .names) (b .pool .held) ≡ cond live (set (rowsIn b) i row) (rowsIn b) → Flat (b .pool .chosen .rows) (b .pool .held) l₁ (b .names)
-      → outcome x tt (lent e (bufs (b .pool) l₁ (b .names) (b .dirs))) ≡ flatO (came (resizedM d i n (view b)))
+      → outcome x tt (lent e (bufs (b .pool) l₁ (b .names) (b .dirs))) ≡ flatO (byDevice (resizedM d i n (view b)))
   unfolding resizedM flatO flatW view
   resize-done z live t x u l₁ r F =
       let k : fineM e ≡ true = eq-eqb _ _ z in
       let s : rowsOf l₁ (b .names) (b .pool .held) ≡ set (rowsIn b) i row = rw t at r in
       let v : x ≡ e .place .last = (rw t at u) ∙ sym z in
       let o : lent e (bufs (b .pool) l₁ (b .names) (b .dirs)) ≡ flatW (resizedM e i n (view b)) = rw k (ap (lent e) (row-flat b (R .pool) i row l₁ (b .names) s F)) in
-      ap₂ (λ (y : ℕ) (m : Lent). outcome y tt m) v o ∙ ap (λ (y : Dev). flatO (came (resizedM y i n (view b)))) q
+      ap₂ (λ (y : ℕ) (m : Lent). outcome y tt m) v o ∙ ap (λ (y : Dev). flatO (byDevice (resizedM y i n (view b)))) q
 
 module _ (plan : List ℕ) (g : Geometry) (slot generation : ℕ) (l : Lent) (live : isLive slot generation (rowsIn (l .bufs)) ≡ true) (x : Outcome None Lent) where
   pub write-at-is : (pos : ℕ) (src : List ℕ) (len n : ℕ) → len ≡ lenOf (at (rowsIn (l .bufs)) slot) → n ≡ max len (pos + length src)
-      → x ≡ flatO (came (resizedM (dataWriteM plan g slot pos src (l .dev)) slot n (view (l .bufs)))) → x ≡ flatO (writeAtM plan g slot generation pos src (viewW l))
+      → x ≡ flatO (byDevice (resizedM (dataWriteM plan g slot pos src (l .dev)) slot n (view (l .bufs)))) → x ≡ flatO (writeAtM plan g slot generation pos src (viewW l))
   unfolding writeAtM viewW view
-  write-at-is pos src len n k e q = rw live (q ∙ ap (λ (m : ℕ). flatO (came (resizedM (dataWriteM plan g slot pos src (l .dev)) slot m (view (l .bufs))))) (rw k at e))
+  write-at-is pos src len n k e q = rw live (q ∙ ap (λ (m : ℕ). flatO (byDevice (resizedM (dataWriteM plan g slot pos src (l .dev)) slot m (view (l .bufs))))) (rw k at e))
 
-  pub set-len-is : (len : ℕ) → x ≡ flatO (came (resizedM (dataTruncateM plan g slot len (l .dev)) slot len (view (l .bufs)))) → x ≡ flatO (setLenM plan g slot generation len (viewW l))
+  pub set-len-is : (len : ℕ) → x ≡ flatO (byDevice (resizedM (dataTruncateM plan g slot len (l .dev)) slot len (view (l .bufs)))) → x ≡ flatO (setLenM plan g slot generation len (viewW l))
   unfolding setLenM viewW view
   set-len-is len q = rw live q
 

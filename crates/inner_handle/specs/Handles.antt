@@ -13,7 +13,7 @@ use Rattle.pool_state.specs.Changes.{withRow}
 use Rattle.pool_steps.specs.World.{World, world}
 use Rattle.pool_steps.specs.Steps.{fineM, syncRowM}
 use Rattle.inner_handle.specs.declared.Len.{Len}
-use Rattle.pool_steps.specs.Outcome.{Outcome, outcome, None, came}
+use Rattle.pool_steps.specs.Outcome.{Outcome, outcome, None, byDevice}
 
 -- Not "handle stale, or slot out of range": the slot is held, bound, and under this generation.
 unfoldable pub isLive : ℕ → ℕ → List Row → Bool
@@ -68,12 +68,12 @@ resizedM d i n s = world d (cond (fineM d) (withRow i (resized n true (at (s .ro
 unfoldable pub writeAtM : List ℕ → Geometry → ℕ → ℕ → ℕ → List ℕ → World → Outcome None World
 writeAtM plan g slot generation pos src w =
     onHandle slot generation tt w
-    (came (resizedM (dataWriteM plan g slot pos src (w .dev)) slot (max (lenOf (at (w .state .rows) slot)) (pos + length src)) (w .state)))
+    (byDevice (resizedM (dataWriteM plan g slot pos src (w .dev)) slot (max (lenOf (at (w .state .rows) slot)) (pos + length src)) (w .state)))
 
 -- "set_len truncates; on success that is the length; dirty."
 unfoldable pub setLenM : List ℕ → Geometry → ℕ → ℕ → ℕ → World → Outcome None World
 setLenM plan g slot generation len w =
-    onHandle slot generation tt w (came (resizedM (dataTruncateM plan g slot len (w .dev)) slot len (w .state)))
+    onHandle slot generation tt w (byDevice (resizedM (dataTruncateM plan g slot len (w .dev)) slot len (w .state)))
 
 -- ---- "sync"
 
@@ -81,4 +81,4 @@ setLenM plan g slot generation len w =
 unfoldable pub syncM : List ℕ → Geometry → ℕ → ℕ → World → Outcome None World
 syncM plan g slot generation w =
     onHandle slot generation tt w
-    (came (cond (isDirty (at (w .state .rows) slot)) (syncRowM plan g slot w) (world (flushM plan (w .dev)) (w .state))))
+    (byDevice (cond (isDirty (at (w .state .rows) slot)) (syncRowM plan g slot w) (world (flushM plan (w .dev)) (w .state))))

@@ -18,7 +18,7 @@ use Rattle.dir_rows.specs.Rows.{dirsOf, FlatDirs}
 use Rattle.dir_rows.proofs.InBuffer.{dirs-long}
 use Rattle.pool_state.specs.State.{Bufs, view, IsPool}
 use Rattle.pool_state.specs.InBuffers.{pool-rows, pool-dirs}
-use Rattle.row_order.specs.Spans.{spelled, AllInside, before, inOrder, fileSpan, dirSpan}
+use Rattle.row_order.specs.Spans.{spelled, AllInside, spanBefore, inOrder, fileSpan, dirSpan}
 use Rattle.row_order.specs.InOrder.{spelled-sort}
 use Rattle.row_order.specs.Picks.{picks-few, picks-inside, picked-rows, spell-each, file-inside, file-spelled, dir-inside, dir-spelled}
 use Rattle.inner_list.specs.Listing.{isChild, filesIn, dirsIn, entry, listingOf, listing, fitted, readDirM}
@@ -53,10 +53,10 @@ unfolding cat
 cat-map f e g h [] = refl
 cat-map f e g h (x ∷ l) = ap₂ (λ (a b : List ℕ). a ++ b) (h x) (cat-map f e g h l)
 
-entries-spell : (kind : ℕ) (b xs : List ℕ) (ps : List (List ℕ)) → map (spelled b) xs ≡ ps → entries kind b (sort (before b) xs) ≡ cat (entry kind) (inOrder ps)
+entries-spell : (kind : ℕ) (b xs : List ℕ) (ps : List (List ℕ)) → map (spelled b) xs ≡ ps → entries kind b (sort (spanBefore b) xs) ≡ cat (entry kind) (inOrder ps)
 unfolding entries
 entries-spell kind b xs ps h =
-    cat-map (λ (x : ℕ). entry kind (spelled b x)) (entry kind) (spelled b) (λ x. refl) (sort (before b) xs)
+    cat-map (λ (x : ℕ). entry kind (spelled b x)) (entry kind) (spelled b) (λ x. refl) (sort (spanBefore b) xs)
     ∙ ap (cat (entry kind)) (spelled-sort b xs ∙ ap inOrder h)
 
 module _ (b : Bufs) (P : IsPool b) (path : List ℕ) where
@@ -135,14 +135,14 @@ module _ (b : Bufs) (P : IsPool b) (path : List ℕ) where
       map-same [] = refl
       map-same (x ∷ l) = ap {B = List (List ℕ)} (λ t. x ∷ t) (map-same l)
 
-  listed : entries 0 (b .names) (sort (before (b .names)) (childFiles path rs)) ++ entries 1 (b .dirs) (sort (before (b .dirs)) (childDirs path ds)) ≡ listingOf path (view b)
+  listed : entries 0 (b .names) (sort (spanBefore (b .names)) (childFiles path rs)) ++ entries 1 (b .dirs) (sort (spanBefore (b .dirs)) (childDirs path ds)) ≡ listingOf path (view b)
   unfolding listingOf
   listed = ap₂ (λ (x y : List ℕ). x ++ y) (entries-spell 0 (b .names) (childFiles path rs) _ files-spell) (entries-spell 1 (b .dirs) (childDirs path ds) _ folders-spell)
 
   listed-long : length (listingOf path (view b)) ≡ sizeOf (childFiles path rs) + sizeOf (childDirs path ds)
   listed-long =
       ap length (sym listed)
-      ∙ length-append (entries 0 (b .names) (sort (before (b .names)) (childFiles path rs))) (entries 1 (b .dirs) (sort (before (b .dirs)) (childDirs path ds)))
+      ∙ length-append (entries 0 (b .names) (sort (spanBefore (b .names)) (childFiles path rs))) (entries 1 (b .dirs) (sort (spanBefore (b .dirs)) (childDirs path ds)))
       ∙ ap₂ (λ (x y : ℕ). x + y) (entries-sorted 0 (b .names) (childFiles path rs) ∙ entries-long 0 (b .names) (childFiles path rs) files-inside)
       (entries-sorted 1 (b .dirs) (childDirs path ds) ∙ entries-long 1 (b .dirs) (childDirs path ds) folders-inside)
 
@@ -175,7 +175,7 @@ module _ (b : Bufs) (P : IsPool b) (path : List ℕ) where
 
       pub done : (r : ℕ) (l : List ℕ) → u + v ≤ length buf
           → r ≡ length (entries 0 (b .names) (take f fl)) + length (entries 1 (b .dirs) (take d dl))
-          → l ≡ sets buf 0 (entries 0 (b .names) (sort (before (b .names)) (take f fl)) ++ entries 1 (b .dirs) (sort (before (b .dirs)) (take d dl)))
+          → l ≡ sets buf 0 (entries 0 (b .names) (sort (spanBefore (b .names)) (take f fl)) ++ entries 1 (b .dirs) (sort (spanBefore (b .dirs)) (take d dl)))
           → listing 0 r l ≡ readDirM path buf (view b)
       unfolding fitted
       done r l h p q =

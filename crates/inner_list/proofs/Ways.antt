@@ -18,7 +18,7 @@ use Rattle.slot_rows.specs.Rows.{Row, at, isBound, pathOf, rowsOf, Flat}
 use Rattle.slot_rows.proofs.InBuffers.{length-rows, name-part}
 use Rattle.dir_rows.specs.Rows.{dirAt, dirsOf}
 use Rattle.dir_rows.proofs.InBuffer.{length-dirs, dir-part}
-use Rattle.row_order.specs.Spans.{spelled, Inside, AllInside, before, fileSpan, dirSpan}
+use Rattle.row_order.specs.Spans.{spelled, SpanInside, AllInside, spanBefore, fileSpan, dirSpan}
 use Rattle.row_order.specs.Picks.{row-spells}
 use Rattle.row_order.specs.InOrder.{inside-get, inside-sort}
 use Rattle.inner_list.specs.Listing.{isChild, entry}
@@ -68,7 +68,7 @@ length-entry : (kind : ℕ) (p : List ℕ) → length (entry kind p) ≡ 3 + len
 unfolding entry
 length-entry kind p = omega arith
 
-pub length-spelled : (b : List ℕ) (x : ℕ) → Inside b x → length (spelled b x) ≡ x % 512
+pub length-spelled : (b : List ℕ) (x : ℕ) → SpanInside b x → length (spelled b x) ≡ x % 512
 unfolding spelled
 length-spelled b x h = simp (length-take, length-drop) (omega arith)
 
@@ -122,7 +122,7 @@ module _ (kind : ℕ) (b xs d₀ : List ℕ) (at : ℕ) where
       unfolding spelled
       next-part = rw (add-sub-cancel-left (x / 512) (x % 512))
 
-      next-inside : Inside b x
+      next-inside : SpanInside b x
       next-inside = inside-get b xs i a h
 
       turn : entries kind b (drop i xs) ≡ entry kind (spelled b x) ++ entries kind b (drop (i + 1) xs)
@@ -156,12 +156,12 @@ module _ (kind : ℕ) (b xs d₀ : List ℕ) (at : ℕ) where
 -- ---- both runs of entries
 
 -- in order, entries take as many bytes
-pub entries-sorted : (kind : ℕ) (b xs : List ℕ) → length (entries kind b (sort (before b) xs)) ≡ length (entries kind b xs)
+pub entries-sorted : (kind : ℕ) (b xs : List ℕ) → length (entries kind b (sort (spanBefore b) xs)) ≡ length (entries kind b xs)
 unfolding entries
-entries-sorted kind b xs = length-sort (before b) (λ (x : ℕ). entry kind (spelled b x)) xs
+entries-sorted kind b xs = length-sort (spanBefore b) (λ (x : ℕ). entry kind (spelled b x)) xs
 
 module _ (names dirs files folders fs ds buf : List ℕ) (a : AllInside names files) (b : AllInside dirs folders)
-    (f : fs ≡ sort (before names) files) (d : ds ≡ sort (before dirs) folders)
+    (f : fs ≡ sort (spanBefore names) files) (d : ds ≡ sort (spanBefore dirs) folders)
     (h : length (entries 0 names files) + length (entries 1 dirs folders) ≤ length buf) where
   files-long : length (entries 0 names fs) ≡ length (entries 0 names files)
   files-long = ap (λ (x : List ℕ). length (entries 0 names x)) f ∙ entries-sorted 0 names files
@@ -177,7 +177,7 @@ module _ (names dirs files folders fs ds buf : List ℕ) (a : AllInside names fi
     dirs-fit = (rw d (inside-sort dirs folders b), omega (arith, files-long, dirs-long, ap length (p .1) ∙ length-sets buf 0 (entries 0 names fs)))
 
     pub both-put : (r : ℕ) (l : List ℕ) → (r ≡ at + length (entries 1 dirs ds)) × (l ≡ sets mid at (entries 1 dirs ds))
-        → (r ≡ length (entries 0 names files) + length (entries 1 dirs folders)) × (l ≡ sets buf 0 (entries 0 names (sort (before names) files) ++ entries 1 dirs (sort (before dirs) folders)))
+        → (r ≡ length (entries 0 names files) + length (entries 1 dirs folders)) × (l ≡ sets buf 0 (entries 0 names (sort (spanBefore names) files) ++ entries 1 dirs (sort (spanBefore dirs) folders)))
     both-put r l q = (
       omega (arith, q .0, p .0, files-long, dirs-long),
       q .1 ∙ rw (p .0, p .1, sets-append (entries 0 names fs) (entries 1 dirs ds) buf 0, f, d),

@@ -15,7 +15,7 @@ ghost use Rattle.path.specs.Path.{isParent};
 ghost use Rattle.slot_rows.specs.Rows.{at, rowsOf, Flat};
 ghost use Rattle.dir_rows.specs.Rows.{dirsOf};
 ghost use Rattle.pool_state.specs.State.{bufs, bufsBefore, view, IsPool};
-ghost use Rattle.row_order.specs.Spans.{AllInside, before};
+ghost use Rattle.row_order.specs.Spans.{AllInside, spanBefore};
 ghost use Rattle.inner_list.specs.Listing.{isChild, entry, listing, readDirM};
 ghost use Rattle.inner_list.specs.Parts.{childFiles, childDirs, sizeOf, entries};
 
@@ -150,13 +150,13 @@ fn fill(names: &[u8], dirs: &[u8], files: &mut [u32], folders: &mut [u32], buf: 
     ensures size { λ r. ⌜
         r
         ≡ length (entries 0 (now (names .entry)) (now (files .entry))) + length (entries 1 (now (dirs .entry)) (now (folders .entry))) ⌝ }
-    ensures first { λ _. ⌜ now (files .exit) ≡ sort (before (now (names .entry))) (now (files .entry)) ⌝ }
-    ensures second { λ _. ⌜ now (folders .exit) ≡ sort (before (now (dirs .entry))) (now (folders .entry)) ⌝ }
+    ensures first { λ _. ⌜ now (files .exit) ≡ sort (spanBefore (now (names .entry))) (now (files .entry)) ⌝ }
+    ensures second { λ _. ⌜ now (folders .exit) ≡ sort (spanBefore (now (dirs .entry))) (now (folders .entry)) ⌝ }
     ensures written { λ _. ⌜
         now (buf .exit)
         ≡ sets (now (buf .entry)) 0
-        (entries 0 (now (names .entry)) (sort (before (now (names .entry))) (now (files .entry)))
-        ++ entries 1 (now (dirs .entry)) (sort (before (now (dirs .entry))) (now (folders .entry)))) ⌝ }
+        (entries 0 (now (names .entry)) (sort (spanBefore (now (names .entry))) (now (files .entry)))
+        ++ entries 1 (now (dirs .entry)) (sort (spanBefore (now (dirs .entry))) (now (folders .entry)))) ⌝ }
 {
     row_order::sort(names, files);
     row_order::sort(dirs, folders);

@@ -14,7 +14,7 @@ use Rattle.pool_state.specs.State.{State}
 use Rattle.pool_steps.specs.World.{World}
 use Rattle.pool_steps.specs.Steps.{releaseM}
 use Rattle.pool_steps.proofs.Numbers.{cut-last, either, release-last}
-use Rattle.pool_steps.specs.Outcome.{None, Out, came, outcome}
+use Rattle.pool_steps.specs.Outcome.{None, Out, byDevice, outcome}
 use Rattle.inner_open.specs.Files.{admitsNew, createM, isFile, noHandle, openNewM, openReadM, openWriteM, removeM, reopenM, roomFor}
 
 -- There is room, or one of 7 to 9.
@@ -40,7 +40,7 @@ module _ (plan : List ℕ) (g : Geometry) where
   unfolding removeM
   remove-number path w =
       either Out (isFile path (w .state)) {y = outcome {R = None} 5 tt w}
-      (either Out (ltb lastCounter (w .state .counter + 1)) {x = outcome {R = None} 9 tt w} {y = came (releaseM plan g i w)} (omega arith) (release-last plan g i w)) (omega arith)
+      (either Out (ltb lastCounter (w .state .counter + 1)) {x = outcome {R = None} 9 tt w} {y = byDevice (releaseM plan g i w)} (omega arith) (release-last plan g i w)) (omega arith)
     where
       i : ℕ
       i = find path (w .state .rows)

@@ -28,7 +28,7 @@ use Rattle.pool_state.specs.Changes.{withRow, withDirs, Admits, with-row-valid,
 use Rattle.pool_steps.specs.World.{World, world, Fit}
 use Rattle.pool_steps.specs.Steps.{fineM, releaseM}
 use Rattle.pool_steps.proofs.Stays.{Kept, call-kept, release-fit}
-use Rattle.pool_steps.specs.Outcome.{outcome, None, came}
+use Rattle.pool_steps.specs.Outcome.{outcome, None, byDevice}
 use Rattle.inner_handle.proofs.Stays.{resized-fit}
 use Rattle.inner_open.specs.Files.{roomFor, registers, binds, noHandle, reopenM, created, createM, admitsNew, openNewM, openWriteM, removeM}
 
@@ -172,7 +172,7 @@ module _ (plan : List ℕ) (g : Geometry) (w : World) (f : Fit g w) where
       i = find path (w .state .rows)
 
       go : (a b : Bool) → ltb (find path (w .state .rows)) (length (w .state .rows)) ≡ a → ltb lastCounter (w .state .counter + 1) ≡ b
-          → Fit g (cond a (cond b (outcome {R = None} 9 tt w) (came (releaseM plan g (find path (w .state .rows)) w))) (outcome 5 tt w) .left)
+          → Fit g (cond a (cond b (outcome {R = None} 9 tt w) (byDevice (releaseM plan g (find path (w .state .rows)) w))) (outcome 5 tt w) .left)
       go true true x y = f
       go true false x y =
           let h : i < length (w .state .rows) = ltb-true i (length (w .state .rows)) x in

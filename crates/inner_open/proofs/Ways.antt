@@ -29,7 +29,7 @@ use Rattle.pool_state.specs.InBuffers.{is-pool, pool-canon, pool-rows, pool-dir
 use Rattle.pool_state.specs.Changes.{withRow, withDirs, row-flat}
 use Rattle.pool_steps.specs.World.{World, world, Lent, lent, viewW, flatW, Ready}
 use Rattle.pool_steps.specs.Steps.{fineM, releaseM}
-use Rattle.pool_steps.specs.Outcome.{Outcome, outcome, flatO, None, came}
+use Rattle.pool_steps.specs.Outcome.{Outcome, outcome, flatO, None, byDevice}
 use Rattle.inner_handle.specs.Handles.{resizedM}
 use Rattle.inner_handle.proofs.Stays.{stays}
 use Rattle.inner_open.specs.declared.Reader.{Reader}

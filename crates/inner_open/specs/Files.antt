@@ -14,7 +14,7 @@ use Rattle.pool_state.specs.Queue.{queued, unqueued, spent}
 use Rattle.pool_state.specs.Changes.{withRow, withDirs}
 use Rattle.pool_steps.specs.World.{World, world}
 use Rattle.pool_steps.specs.Steps.{fineM, releaseM}
-use Rattle.pool_steps.specs.Outcome.{Outcome, outcome, None, came}
+use Rattle.pool_steps.specs.Outcome.{Outcome, outcome, None, byDevice}
 use Rattle.inner_handle.specs.Handles.{resizedM}
 use Rattle.inner_open.specs.declared.Reader.{Reader}
 
@@ -106,5 +106,5 @@ openWriteM plan g path keep w =
 unfoldable pub removeM : List ℕ → Geometry → List ℕ → World → Outcome None World
 removeM plan g path w =
     cond (isFile path (w .state))
-    (cond (ltb lastCounter (w .state .counter + 1)) (outcome 9 tt w) (came (releaseM plan g (find path (w .state .rows)) w)))
+    (cond (ltb lastCounter (w .state .counter + 1)) (outcome 9 tt w) (byDevice (releaseM plan g (find path (w .state .rows)) w)))
     (outcome 5 tt w)

@@ -14,7 +14,7 @@ use Rattle.pool_state.specs.State.{State}
 use Rattle.pool_steps.specs.World.{World}
 use Rattle.pool_steps.specs.Steps.{fineM, releaseM}
 use Rattle.pool_steps.proofs.Numbers.{LastW, either, put-last, release-last}
-use Rattle.pool_steps.specs.Outcome.{None, Out, came, outcome}
+use Rattle.pool_steps.specs.Outcome.{None, Out, byDevice, outcome}
 use Rattle.inner_open.specs.Files.{isFile, room}
 use Rattle.inner_open.proofs.Numbers.{room-number}
 use Rattle.inner_rename.specs.declared.Course.{Course}
@@ -48,5 +48,5 @@ module _ (plan : List ℕ) (g : Geometry) where
       let v = rebindM plan g (f .from) to w in
       let h = rebind-last (f .from) to w in
       either Out (f .go) {x = renamedM plan g (f .from) (f .to) to w} {y = outcome {R = None} (f .out) tt w}
-      (either Out (fineM (v .dev)) {y = came v} (settled-number (f .from) (f .to) to (w .state .counter) (lenOf (at (w .state .rows) (f .from))) v h) h)
+      (either Out (fineM (v .dev)) {y = byDevice v} (settled-number (f .from) (f .to) to (w .state .counter) (lenOf (at (w .state .rows) (f .from))) v h) h)
       (front-number from to (w .state))

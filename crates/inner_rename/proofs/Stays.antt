@@ -22,7 +22,7 @@ use Rattle.pool_state.specs.State.{State, Valid}
 use Rattle.pool_state.specs.Changes.{withRow, withDirs, with-row-valid}
 use Rattle.pool_steps.specs.World.{World, world, Fit}
 use Rattle.pool_steps.specs.Steps.{fineM}
-use Rattle.pool_steps.specs.Outcome.{outcome, came}
+use Rattle.pool_steps.specs.Outcome.{outcome, byDevice}
 use Rattle.inner_open.specs.Files.{isFile, roomFor, registers}
 use Rattle.inner_open.proofs.Stays.{registers-valid, bound-admitted, room-made}
 use Rattle.inner_rename.specs.declared.Course.{Course}
@@ -184,7 +184,7 @@ module _ (plan : List ℕ) (g : Geometry) (from to : List ℕ) (w : World) (f : 
   unfolding renamedM
   renamed-fit t = go (fineM (v .dev))
     where
-      go : (x : Bool) → Fit g (cond x (settledM plan g (c .from) (c .to) to (s .counter) (lenOf (at (s .rows) (c .from))) v) (came v) .left)
+      go : (x : Bool) → Fit g (cond x (settledM plan g (c .from) (c .to) to (s .counter) (lenOf (at (s .rows) (c .from))) v) (byDevice v) .left)
       go true = settled-fit t (lenOf (at (s .rows) (c .from)))
       go false = rebound-fit
 

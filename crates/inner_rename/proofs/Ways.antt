@@ -27,7 +27,7 @@ use Rattle.pool_state.specs.Changes.{withRow, row-flat}
 use Rattle.pool_steps.specs.World.{World, world, Lent, lent, viewW, flatW, Fit, Ready}
 use Rattle.pool_steps.specs.Steps.{fineM, putM, releaseM}
 use Rattle.pool_steps.proofs.Stays.{world-is, ready-fit, lent-stays}
-use Rattle.pool_steps.specs.Outcome.{Outcome, outcome, flatO, None, came}
+use Rattle.pool_steps.specs.Outcome.{Outcome, outcome, flatO, None, byDevice}
 use Rattle.inner_handle.proofs.Stays.{stays}
 use Rattle.inner_open.specs.Files.{roomFor, registers, binds}
 use Rattle.inner_rename.specs.declared.Course.{Course}

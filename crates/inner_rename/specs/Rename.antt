@@ -14,7 +14,7 @@ use Rattle.pool_state.specs.Queue.{spent}
 use Rattle.pool_state.specs.Changes.{withRow}
 use Rattle.pool_steps.specs.World.{World, world}
 use Rattle.pool_steps.specs.Steps.{fineM, putM, releaseM}
-use Rattle.pool_steps.specs.Outcome.{Outcome, outcome, None, came}
+use Rattle.pool_steps.specs.Outcome.{Outcome, outcome, None, byDevice}
 use Rattle.inner_open.specs.Files.{isFile, room, registers}
 use Rattle.inner_rename.specs.declared.Course.{Course}
 
@@ -54,12 +54,12 @@ unfoldable pub settledM : List ℕ → Geometry → ℕ → ℕ → List ℕ →
 settledM plan g i j to generation len w =
     let u = vacatedM plan g j w in
     let s = withRow i (bound to (file generation len false)) (u .state) in
-    came (world (u .dev) (cond (fineM (u .dev)) (registers to s) s))
+    byDevice (world (u .dev) (cond (fineM (u .dev)) (registers to s) s))
 
 unfoldable pub renamedM : List ℕ → Geometry → ℕ → ℕ → List ℕ → World → Outcome None World
 renamedM plan g i j to w =
     let v = rebindM plan g i to w in
-    cond (fineM (v .dev)) (settledM plan g i j to (w .state .counter) (lenOf (at (w .state .rows) i)) v) (came v)
+    cond (fineM (v .dev)) (settledM plan g i j to (w .state .counter) (lenOf (at (w .state .rows) i)) v) (byDevice v)
 
 unfoldable pub renameM : List ℕ → Geometry → List ℕ → List ℕ → World → Outcome None World
 renameM plan g from to w =

@@ -12,7 +12,7 @@ use Rattle.lists.specs.Blocks.{cat}
 use Rattle.lists.specs.Sort.{All, all-keep, all-range, all-sort, keep, sort}
 use Rattle.slot_rows.specs.Rows.{Row, at, isBound, rowsOf, Flat}
 use Rattle.dir_rows.specs.Rows.{dirsOf}
-use Rattle.row_order.specs.Spans.{spelled, AllInside, before, fileSpan, slotOf, fileSpans, dirSpans, fileBefore}
+use Rattle.row_order.specs.Spans.{spelled, AllInside, spanBefore, fileSpan, slotOf, fileSpans, dirSpans, fileBefore}
 use Rattle.row_order.specs.InOrder.{length-sorted}
 use Rattle.row_order.specs.Picks.{picks-few, picks-inside, file-spans, file-inside, file-slot}
 use Rattle.row_order.specs.AllDirs.{cat-map, dirs-many, sorted-cat}
@@ -49,22 +49,22 @@ module _ (cap n : ℕ) (l s : List ℕ) (F : Flat cap n l s) where
   pub files-inside : AllInside s (fileSpans rs)
   files-inside = rw (file-spans l s n) (picks-inside s (fileSpan rs) held n (file-inside cap n l s F))
 
-  pub files-held : SlotsBelow n (sort (before s) (fileSpans rs))
+  pub files-held : SlotsBelow n (sort (spanBefore s) (fileSpans rs))
   unfolding SlotsBelow
   files-held =
       let p = all-range (λ i. slotOf (fileSpan rs i) < n) 0 n (λ i a h. omega (arith, file-slot cap n l s F i)) in
-      all-sort (before s) (λ x. slotOf x < n) (fileSpans rs)
+      all-sort (spanBefore s) (λ x. slotOf x < n) (fileSpans rs)
       (rw (file-spans l s n) (all-mapped (fileSpan rs) (λ x. slotOf x < n) (keep held (range 0 n)) (all-keep held (λ i. slotOf (fileSpan rs i) < n) (range 0 n) p)))
 
-  pub files-text : cat (λ x. fileLine rs (slotOf x)) (sort (before s) (fileSpans rs)) ≡ filesText rs
+  pub files-text : cat (λ x. fileLine rs (slotOf x)) (sort (spanBefore s) (fileSpans rs)) ≡ filesText rs
   unfolding filesText filesOf fileSpans
   files-text =
       let is = keep held (range 0 (length rs)) in
       let f : ℕ → List ℕ = λ x. fileLine rs (slotOf x) in
       ap (cat f) (files-sorted cap n l s F is) ∙ cat-map (fileSpan rs) f (fileLine rs) (λ i. ap (fileLine rs) (file-slot cap n l s F i)) (sort (fileBefore rs) is)
 
-  pub files-count : length (sort (before s) (fileSpans rs)) ≤ n
-  files-count = omega (arith, length-sorted (before s) (fileSpans rs), files-few)
+  pub files-count : length (sort (spanBefore s) (fileSpans rs)) ≤ n
+  files-count = omega (arith, length-sorted (spanBefore s) (fileSpans rs), files-few)
 
 -- ---- directories
 
@@ -76,6 +76,6 @@ module _ (m : ℕ) (b : List ℕ) (h : m * dirWidth ≤ length b) where
   pub dirs-front : (w d : List ℕ) → d ≡ sets w 0 (dirSpans ds) → m ≤ length w → take m d ≡ dirSpans ds
   dirs-front w d f k = front-back w (dirSpans ds) d m m (sym (dirs-many b m h)) f (omega (arith, dirs-many b m h)) k .1
 
-  pub dirs-text : cat (λ x. dirLine (spelled b x)) (sort (before b) (dirSpans ds)) ≡ dirsText ds
+  pub dirs-text : cat (λ x. dirLine (spelled b x)) (sort (spanBefore b) (dirSpans ds)) ≡ dirsText ds
   unfolding dirsText
   dirs-text = sorted-cat b m h dirLine

@@ -10,7 +10,7 @@ use Rattle.lists.specs.Blocks.{cat}
 use Rattle.lists.specs.Sort.{sort}
 use Rattle.slot_rows.specs.Rows.{Row, at, pathOf, genOf, lenOf, isDirty, rowsOf, Flat, Short}
 use Rattle.dir_rows.specs.Rows.{dirsOf}
-use Rattle.row_order.specs.Spans.{spelled, AllInside, before, slotOf, fileSpans, dirSpans}
+use Rattle.row_order.specs.Spans.{spelled, AllInside, spanBefore, slotOf, fileSpans, dirSpans}
 use Rattle.row_order.specs.AllDirs as all
 use Rattle.pool_state.specs.declared.Pool.{Pool}
 use Rattle.pool_state.specs.State.{Bufs, view, queueOf, poolOf, IsPool}
@@ -81,7 +81,7 @@ held-get n (x ∷ xs) (suc k) a h = held-get n xs k (a .1) (omega arith)
 
 -- ---- all files, all directories
 
-module _ (cap n : ℕ) (l s : List ℕ) (F : Flat cap n l s) {xs : List ℕ} (e : xs ≡ sort (before s) (fileSpans (rowsOf l s n))) where
+module _ (cap n : ℕ) (l s : List ℕ) (F : Flat cap n l s) {xs : List ℕ} (e : xs ≡ sort (spanBefore s) (fileSpans (rowsOf l s n))) where
   pub sorted-held : SlotsBelow n xs
   sorted-held = rw e (files-held cap n l s F)
 
@@ -94,9 +94,9 @@ module _ (cap n : ℕ) (l s : List ℕ) (F : Flat cap n l s) {xs : List ℕ} (e 
 pub files-long : (cap n : ℕ) (l s : List ℕ) → Flat cap n l s → n ≤ 64 → length (filesText (rowsOf l s n)) ≤ 38400
 files-long cap n l s F h =
     let f : ℕ → List ℕ = λ x. fileLine (rowsOf l s n) (slotOf x) in
-    omega (arith, ap length (files-text cap n l s F), cat-few f (λ x. file-few (rowsOf l s n) (F .short) (slotOf x)) (sort (before s) (fileSpans (rowsOf l s n))), files-count cap n l s F)
+    omega (arith, ap length (files-text cap n l s F), cat-few f (λ x. file-few (rowsOf l s n) (F .short) (slotOf x)) (sort (spanBefore s) (fileSpans (rowsOf l s n))), files-count cap n l s F)
 
-module _ (m : ℕ) (b : List ℕ) (h : m * dirWidth ≤ length b) {xs : List ℕ} (e : xs ≡ sort (before b) (dirSpans (dirsOf b m))) where
+module _ (m : ℕ) (b : List ℕ) (h : m * dirWidth ≤ length b) {xs : List ℕ} (e : xs ≡ sort (spanBefore b) (dirSpans (dirsOf b m))) where
   pub sorted-inside : AllInside b xs
   sorted-inside = rw e (all.sorted-inside b m h)
 
@@ -108,7 +108,7 @@ module _ (m : ℕ) (b : List ℕ) (h : m * dirWidth ≤ length b) {xs : List ℕ
 
 pub dirs-long : (m : ℕ) (b : List ℕ) → m * dirWidth ≤ length b → m ≤ 256 → length (dirsText (dirsOf b m)) ≤ 153600
 dirs-long m b h k =
-    omega (arith, ap length (dirs-text m b h), cat-few (λ x. dirLine (spelled b x)) (dir-few b) (sort (before b) (dirSpans (dirsOf b m))), all.sorted-many b m h)
+    omega (arith, ap length (dirs-text m b h), cat-few (λ x. dirLine (spelled b x)) (dir-few b) (sort (spanBefore b) (dirSpans (dirsOf b m))), all.sorted-many b m h)
 
 -- ---- the whole
 

@@ -12,7 +12,7 @@ ghost use Rattle.lists.specs.Sort.{sort};
 ghost use Rattle.slot_rows.specs.Rows.{rowsOf, Flat};
 ghost use Rattle.dir_rows.specs.Rows.{dirsOf};
 ghost use Rattle.pool_state.specs.State.{bufs, view, IsPool};
-ghost use Rattle.row_order.specs.Spans.{Inside, AllInside, spelled, slotOf, fileSpans, dirSpans};
+ghost use Rattle.row_order.specs.Spans.{SpanInside, AllInside, spelled, slotOf, fileSpans, dirSpans};
 ghost use Rattle.output.specs.Writer.{Puts, PutsAll};
 ghost use Rattle.line_dump.specs.Dump.{pathEnd, bitOf, fileNumbers, fileLine, dirLine, filesText, dirsText, dumpText};
 ghost use Rattle.line_dump.specs.Dump.{dumpAnswer, SlotsBelow};
@@ -142,7 +142,7 @@ fn put_all_files(
 
 // The line of the directory whose spelling is the part x.
 fn put_dir(dirs: &[u8], x: u32, out: &mut [u8], at: usize) -> usize
-    requires { ⌜ Inside (now dirs) x × (at + 600 < 2 ^ 64) ⌝ }
+    requires { ⌜ SpanInside (now dirs) x × (at + 600 < 2 ^ 64) ⌝ }
     ensures { λ r. ⌜ Puts (dirLine (spelled (now (dirs .entry)) x)) out at r ⌝ }
 {
     let start = (x / 512) as usize;

@@ -45,9 +45,9 @@ betterOf less Nothing x = At x
 betterOf less (At b) x = cond (less x b) (At x) (At b)
 
 -- the elements after the last one that was taken
-abbrev pub after : (ℕ → ℕ → Bool) → Found → ℕ → Bool
-after less Nothing x = true
-after less (At j) x = less j x
+abbrev pub follows : (ℕ → ℕ → Bool) → Found → ℕ → Bool
+follows less Nothing x = true
+follows less (At j) x = less j x
 
 abbrev pub InRange : Found → ℕ → Type 0
 InRange Nothing n = Unit {0}
@@ -269,20 +269,20 @@ module _ (less : ℕ → ℕ → Bool) where
 
   -- the selection step: where the first of the sort of what comes after `last` is m, the rest of the sort is the sort of what comes after m
   pub select : Strict less → (last : Found) (m : ℕ) (l : List ℕ) → Apart less l
-      → firstOf (sort less (keep (after less last) l)) ≡ At m
-      → sort less (keep (after less last) l) ≡ m ∷ sort less (keep (after less (At m)) l)
-  select S last m l a e = go (sort less (keep (after less last) l)) refl e
+      → firstOf (sort less (keep (follows less last) l)) ≡ At m
+      → sort less (keep (follows less last) l) ≡ m ∷ sort less (keep (follows less (At m)) l)
+  select S last m l a e = go (sort less (keep (follows less last) l)) refl e
     where
-      go : (s : List ℕ) → sort less (keep (after less last) l) ≡ s → firstOf s ≡ At m → sort less (keep (after less last) l) ≡ m ∷ sort less (keep (after less (At m)) l)
+      go : (s : List ℕ) → sort less (keep (follows less last) l) ≡ s → firstOf s ≡ At m → sort less (keep (follows less last) l) ≡ m ∷ sort less (keep (follows less (At m)) l)
       go [] q f = let z : _≡_ {A = ℕ} 0 1 = cc in absurd (omega arith)
       go (y ∷ ys) q f =
           let k : y ≡ m = cc in
-          let q′ : sort less (keep (after less last) l) ≡ m ∷ ys = rw (← k) q in
-          let w = head-least less S (keep (after less last) l) m ys (apart-keep (after less last) less l a) q′ in
-          let p : after less last m ≡ true = least-of less S (λ x. after less last x ≡ true) m w (kept-pass (after less last) l) in
-          sort-step less S m w ∙ ap (λ (r : List ℕ). m ∷ sort less r) (keep-keep (after less last) (less m) (λ x h. trans-after last p x h) l)
+          let q′ : sort less (keep (follows less last) l) ≡ m ∷ ys = rw (← k) q in
+          let w = head-least less S (keep (follows less last) l) m ys (apart-keep (follows less last) less l a) q′ in
+          let p : follows less last m ≡ true = least-of less S (λ x. follows less last x ≡ true) m w (kept-pass (follows less last) l) in
+          sort-step less S m w ∙ ap (λ (r : List ℕ). m ∷ sort less r) (keep-keep (follows less last) (less m) (λ x h. trans-after last p x h) l)
         where
-          trans-after : (o : Found) → after less o m ≡ true → (x : ℕ) → less m x ≡ true → after less o x ≡ true
+          trans-after : (o : Found) → follows less o m ≡ true → (x : ℕ) → less m x ≡ true → follows less o x ≡ true
           trans-after Nothing g x h = refl
           trans-after (At j) g x h = S .chain j m x g h
 

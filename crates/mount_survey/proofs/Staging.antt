@@ -21,7 +21,7 @@ use Rattle.header.proofs.BlockLaws.{Passed, short-absent, found}
 use Rattle.device.specs.declared.Place.{Place}
 use Rattle.device.specs.declared.Geometry.{Geometry}
 use Rattle.device.specs.declared.Got.{Got}
-use Rattle.device.specs.Device.{Dev, dev, turn, after, seen, given, share, read, Read, readM, headerReadM, physOf}
+use Rattle.device.specs.Device.{Dev, dev, turn, onward, seen, given, share, read, Read, readM, headerReadM, physOf}
 use Rattle.device.specs.Slots.{share-le}
 use Rattle.slot_rows.specs.Rows.{Row, none, rowsOf, flatNums, flatNames, Flat}
 use Rattle.slot_rows.proofs.InBuffers.{length-rows, rows-grow}
@@ -74,7 +74,7 @@ module _ (plan : List ℕ) (g : Geometry) (i : ℕ) (d : Dev) (z b : List ℕ) (
   said = rw (block-is, count-is, e) (said-front (given plan g i 0 512 d) (given-le plan g i 0 512 d))
 
   last-is : got .place .last ≡ cond (eqb (turn plan (d .place)) 1) 10 0
-  unfolding looked after
+  unfolding looked onward
   last-is = ap (λ (p : Place). p .last) place-is
 
   pub read-failed : _≡_ {A = ℕ} (got .place .last) 10 → true ≡ eqb (turn plan (d .place)) 1

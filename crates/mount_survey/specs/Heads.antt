@@ -11,7 +11,7 @@ use Rattle.header.specs.declared.Decoded.the-variants.{Absent, Found}
 use Rattle.header.specs.Block.{pathOf, decoded}
 use Rattle.device.specs.declared.Place.{Place}
 use Rattle.device.specs.declared.Geometry.{Geometry}
-use Rattle.device.specs.Device.{Dev, dev, turn, after, given}
+use Rattle.device.specs.Device.{Dev, dev, turn, onward, given}
 
 -- The device that a function was lent to read, as it was.
 abbrev pub devBefore : Both (RefT (List ℕ)) (RefT (List ℕ)) → Both (RefT (List ℕ)) (RefT (List ℕ)) → Place → Dev
@@ -46,7 +46,7 @@ behind h r = record { failed = r .failed; heads = h ∷ r .heads; place = r .pla
 
 -- The device after a header read: only the place has moved.
 unfoldable pub looked : List ℕ → Dev → Dev
-looked plan d = dev (d .bytes) (d .phys) (after plan (cond (eqb (turn plan (d .place)) 1) 10 0) (d .place))
+looked plan d = dev (d .bytes) (d .phys) (onward plan (cond (eqb (turn plan (d .place)) 1) 10 0) (d .place))
 
 -- k slots from i on.
 unfoldable pub readsM : List ℕ → Geometry → ℕ → ℕ → Dev → Reads

@@ -6,7 +6,7 @@ use mathlib.Core.List.{List}
 use lib.Dec.{eqb, ltb}
 use lib.ListN.{length}
 use Rattle.device.specs.declared.Geometry.{Geometry}
-use Rattle.device.specs.Device.{Dev, turn, after, short, stores, stops, seen, flushed, flushM, writeM, headerWriteM, dataWriteM, truncateM, dataTruncateM, readM, dataReadM}
+use Rattle.device.specs.Device.{Dev, turn, onward, short, stores, stops, seen, flushed, flushM, writeM, headerWriteM, dataWriteM, truncateM, dataTruncateM, readM, dataReadM}
 use Rattle.slot_rows.specs.Rows.{at}
 use Rattle.pool_state.specs.Numbers.{isNumber}
 use Rattle.pool_steps.specs.World.{World}
@@ -28,17 +28,17 @@ LastW w = Last (w .dev)
 
 module _ (plan : List ℕ) (g : Geometry) where
   write-last : (slot pos : ℕ) (src : List ℕ) (d : Dev) → Last (writeM plan g slot pos src d)
-  unfolding writeM after short
+  unfolding writeM onward short
   write-last slot pos src d =
       either Last (eqb (turn plan (d .place)) 1) (omega arith)
       (either Last (ltb (g .size) pos) (omega arith) (either isNumber (ltb (stores (turn plan (d .place)) (g .size) pos (length src)) (length src)) (omega arith) (omega arith)))
 
   pub flush-last : (d : Dev) → Last (flushM plan d)
-  unfolding flushM flushed after
+  unfolding flushM flushed onward
   flush-last d = either isNumber (stops (turn plan (d .place))) (omega arith) (omega arith)
 
   pub cut-last : (slot len : ℕ) (d : Dev) → Last (dataTruncateM plan g slot len d)
-  unfolding dataTruncateM truncateM after
+  unfolding dataTruncateM truncateM onward
   cut-last slot len d = either Last (stops (turn plan (d .place))) (omega arith) (either Last (ltb (g .size) (512 + len)) (omega arith) (omega arith))
 
   pub store-last : (slot pos : ℕ) (src : List ℕ) (d : Dev) → Last (dataWriteM plan g slot pos src d)
@@ -46,7 +46,7 @@ module _ (plan : List ℕ) (g : Geometry) where
   store-last slot pos src d = write-last slot (512 + pos) src d
 
   pub read-last : (slot pos : ℕ) (dst : List ℕ) (d : Dev) → isNumber (dataReadM plan g slot pos dst d .got .place .last)
-  unfolding dataReadM readM seen after
+  unfolding dataReadM readM seen onward
   read-last slot pos dst d = either isNumber (eqb (turn plan (d .place)) 1) (omega arith) (omega arith)
 
   pub put-last : (slot : ℕ) (block : List ℕ) (d : Dev) → Last (putM plan g slot block d)

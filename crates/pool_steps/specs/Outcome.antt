@@ -24,8 +24,8 @@ abbrev pub only : {X : Type 0} → ℕ → X → Outcome None X
 only n x = outcome n tt x
 
 -- The number that the last device call came to: 0, 10 or 11.
-abbrev pub came : World → Outcome None World
-came w = outcome (w .dev .place .last) tt w
+abbrev pub byDevice : World → Outcome None World
+byDevice w = outcome (w .dev .place .last) tt w
 
 -- Its number is one of 01's.
 abbrev pub Out : {R X : Type 0} → Outcome R X → Type 0

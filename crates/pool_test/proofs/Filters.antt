@@ -20,7 +20,7 @@ use Rattle.path.specs.Theorems.{same-path-refl, key-other}
 use Rattle.slot_rows.specs.Rows.{Row, at, isBound, pathOf, holds, find}
 use Rattle.slot_rows.proofs.Finding.{holds-unbound, holds-path, find-is}
 use Rattle.dir_rows.specs.Rows.{dirAt}
-use Rattle.pool_test.specs.Test.{isZero, part, dirFits, isAt, hasNum, firstOk, cellOk}
+use Rattle.pool_test.specs.Test.{isZero, cutOut, dirFits, isAt, hasNum, firstOk, cellOk}
 use Rattle.pool_test.specs.Keys.{Keys, isDir, hasDir, Tail}
 use Rattle.pool_test.proofs.Turns.{and-no, and-on}
 
@@ -77,11 +77,11 @@ module _ (b : List ℕ) (j : ℕ) (bytes : Bytes b) (room : j * dirWidth + dirWi
   unfolding dirFits
   fit-long h = and-on _ _ false two (and-no _ _ (ap (λ (x : ℕ). leb x maxPath) (sym e) ∙ lt-leb _ _ h))
 
-  pub fit-rest : (g : ℕ) → r ≤ maxPath → g ≡ greatest (part b (j * dirWidth + 2 + r) (j * dirWidth + dirWidth)) → eqb g 0 ≡ dirFits b j
+  pub fit-rest : (g : ℕ) → r ≤ maxPath → g ≡ greatest (cutOut b (j * dirWidth + 2 + r) (j * dirWidth + dirWidth)) → eqb g 0 ≡ dirFits b j
   unfolding dirFits isZero
   fit-rest g h z =
       and-on _ _ (eqb g 0) two (and-on _ _ (eqb g 0) (ap (λ (x : ℕ). leb x maxPath) (sym e) ∙ le-leb _ _ h)
-      (ap (λ (x : ℕ). eqb x 0) z ∙ ap (λ (x : ℕ). eqb (greatest (part b (j * dirWidth + 2 + x) (j * dirWidth + dirWidth))) 0) e))
+      (ap (λ (x : ℕ). eqb x 0) z ∙ ap (λ (x : ℕ). eqb (greatest (cutOut b (j * dirWidth + 2 + x) (j * dirWidth + dirWidth))) 0) e))
 
 -- ---- zeros
 

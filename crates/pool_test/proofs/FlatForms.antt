@@ -25,7 +25,7 @@ use Rattle.dir_rows.proofs.InBuffer.{row-wide, length-dirs, dir-short, dir-leng
 use Rattle.pool_state.specs.declared.Pool.{Pool}
 use Rattle.pool_state.specs.State.{Bufs}
 use Rattle.pool_state.specs.Reads.{Reads}
-use Rattle.pool_test.specs.Test.{sizesOk, isZero, part, restOk, bareOk, rowFits, dirFits, fitsOk}
+use Rattle.pool_test.specs.Test.{sizesOk, isZero, cutOut, restOk, bareOk, rowFits, dirFits, fitsOk}
 use Rattle.pool_test.specs.Keys.{Sized}
 
 -- ---- tests
@@ -82,16 +82,16 @@ zero-front [] (suc k) h = refl
 zero-front (x ∷ l) (suc k) h = omega (arith, h 0 (omega arith), zero-front l k (λ i p. h (suc i) (omega arith)))
 
 -- a part is zero if all its cells are
-pub zero-part : (l : List ℕ) (a e : ℕ) → ((j : ℕ) → a ≤ j → j < e → getD l j 0 ≡ 0) → isZero (part l a e) ≡ true
+pub zero-part : (l : List ℕ) (a e : ℕ) → ((j : ℕ) → a ≤ j → j < e → getD l j 0 ≡ 0) → isZero (cutOut l a e) ≡ true
 unfolding isZero
 zero-part l a e h =
     eq-eqb _ _ (zero-front (drop a l) (e - a) (λ i p. getD-drop a l i 0 ∙ h (a + i) (omega arith) (omega arith)))
 
-pub part-rest : (l : List ℕ) (a : ℕ) → part l a (length l) ≡ drop a l
+pub part-rest : (l : List ℕ) (a : ℕ) → cutOut l a (length l) ≡ drop a l
 part-rest l a = take-all (length l - a) (drop a l) (simp length-drop (omega arith))
 
 -- the front of a list whose rest is zero, filled up again
-refill : (w n : ℕ) (c l : List ℕ) → c ++ drop n l ≡ l → length c ≡ n → n ≤ w → length l ≡ w → isZero (part l n (length l)) ≡ true → pad w c ≡ l
+refill : (w n : ℕ) (c l : List ℕ) → c ++ drop n l ≡ l → length c ≡ n → n ≤ w → length l ≡ w → isZero (cutOut l n (length l)) ≡ true → pad w c ≡ l
 refill w n c l e k h m z =
     let y : length (drop n l) ≡ w - length c = length-drop n l ∙ rw (m, k) in
     pad-fits w c (omega arith) ∙ rw (← y, ← zeros (drop n l) (rw (part-rest l n) at z)) e
@@ -199,15 +199,15 @@ fit-of l s j h e =
       bare = λ q. let y = bare-of _ _ _ (e3 .0) (sym m ∙ q) in (k ∙ y .0, n ∙ y .1);
     }
   where
-    tail : (k : ℕ) → k ≤ maxPath → isZero (part s (j * maxPath + k) (j * maxPath + maxPath)) ≡ true → take (maxPath - k) (drop k (drop (j * maxPath) s)) ≡ replicate (maxPath - k) 0
+    tail : (k : ℕ) → k ≤ maxPath → isZero (cutOut s (j * maxPath + k) (j * maxPath + maxPath)) ≡ true → take (maxPath - k) (drop k (drop (j * maxPath) s)) ≡ replicate (maxPath - k) 0
     tail k b e =
         let z : j * maxPath + maxPath - (j * maxPath + k) ≡ maxPath - k = omega arith in
-        let y : take (maxPath - k) (drop k (drop (j * maxPath) s)) ≡ part s (j * maxPath + k) (j * maxPath + maxPath) = rw (drop-drop k (j * maxPath) s, z) in
-        let n : length (part s (j * maxPath + k) (j * maxPath + maxPath)) ≡ maxPath - k = rw z (length-take-le (maxPath - k) (drop (j * maxPath + k) s) (simp length-drop (omega arith))) in
-        y ∙ zeros (part s (j * maxPath + k) (j * maxPath + maxPath)) e ∙ rw n
+        let y : take (maxPath - k) (drop k (drop (j * maxPath) s)) ≡ cutOut s (j * maxPath + k) (j * maxPath + maxPath) = rw (drop-drop k (j * maxPath) s, z) in
+        let n : length (cutOut s (j * maxPath + k) (j * maxPath + maxPath)) ≡ maxPath - k = rw z (length-take-le (maxPath - k) (drop (j * maxPath + k) s) (simp length-drop (omega arith))) in
+        y ∙ zeros (cutOut s (j * maxPath + k) (j * maxPath + maxPath)) e ∙ rw n
 
 rows-flat-of : (cap n : ℕ) (l s : List ℕ) → n ≤ cap → length l ≡ cap * rowWidth → length s ≡ cap * maxPath
-    → isZero (part l (n * rowWidth) (length l)) ≡ true → isZero (part s (n * maxPath) (length s)) ≡ true → allOf (rowFits l s) 0 n ≡ true → Flat cap n l s
+    → isZero (cutOut l (n * rowWidth) (length l)) ≡ true → isZero (cutOut s (n * maxPath) (length s)) ≡ true → allOf (rowFits l s) 0 n ≡ true → Flat cap n l s
 unfolding flatNums flatNames
 rows-flat-of cap n l s h a b x y f =
     let r = rows-back n l s (omega arith) (omega arith) (λ j k. fit-of l s j (omega arith) (below (rowFits l s) n j f k)) in
@@ -223,8 +223,8 @@ pub fit-rows : (b : Bufs) → Sized (b .pool) (length (b .nums)) (length (b .nam
     → Flat (b .pool .chosen .rows) (b .pool .held) (b .nums) (b .names)
 unfolding restOk fitsOk
 fit-rows b S r f =
-    let r1 = both (isZero (part (b .nums) (b .pool .held * rowWidth) (length (b .nums)))) _ r in
-    let r2 = both (isZero (part (b .names) (b .pool .held * maxPath) (length (b .names)))) _ (r1 .1) in
+    let r1 = both (isZero (cutOut (b .nums) (b .pool .held * rowWidth) (length (b .nums)))) _ r in
+    let r2 = both (isZero (cutOut (b .names) (b .pool .held * maxPath) (length (b .names)))) _ (r1 .1) in
     let f1 = both (allOf (rowFits (b .nums) (b .names)) 0 (b .pool .held)) _ f in
     rows-flat-of (b .pool .chosen .rows) (b .pool .held) (b .nums) (b .names) (S .held) (S .nums-long) (S .names-long) (r1 .0) (r2 .0) (f1 .0)
 
@@ -263,12 +263,12 @@ module _ (b : List ℕ) (j : ℕ) (room : j * dirWidth + dirWidth ≤ length b) 
       min-left : k ≤ maxPath → min k maxPath ≡ k
       min-left h = omega arith
 
-      tail : k ≤ maxPath → isZero (part b (j * dirWidth + 2 + k) (j * dirWidth + dirWidth)) ≡ true → take (maxPath - k) (drop k (drop (j * dirWidth + 2) b)) ≡ replicate (maxPath - k) 0
+      tail : k ≤ maxPath → isZero (cutOut b (j * dirWidth + 2 + k) (j * dirWidth + dirWidth)) ≡ true → take (maxPath - k) (drop k (drop (j * dirWidth + 2) b)) ≡ replicate (maxPath - k) 0
       tail h e =
           let z : j * dirWidth + dirWidth - (j * dirWidth + 2 + k) ≡ maxPath - k = omega arith in
-          let y : take (maxPath - k) (drop k (drop (j * dirWidth + 2) b)) ≡ part b (j * dirWidth + 2 + k) (j * dirWidth + dirWidth) = rw (drop-drop k (j * dirWidth + 2) b, z) in
-          let n : length (part b (j * dirWidth + 2 + k) (j * dirWidth + dirWidth)) ≡ maxPath - k = rw z (length-take-le (maxPath - k) (drop (j * dirWidth + 2 + k) b) (simp length-drop (omega arith))) in
-          y ∙ zeros (part b (j * dirWidth + 2 + k) (j * dirWidth + dirWidth)) e ∙ rw n
+          let y : take (maxPath - k) (drop k (drop (j * dirWidth + 2) b)) ≡ cutOut b (j * dirWidth + 2 + k) (j * dirWidth + dirWidth) = rw (drop-drop k (j * dirWidth + 2) b, z) in
+          let n : length (cutOut b (j * dirWidth + 2 + k) (j * dirWidth + dirWidth)) ≡ maxPath - k = rw z (length-take-le (maxPath - k) (drop (j * dirWidth + 2 + k) b) (simp length-drop (omega arith))) in
+          y ∙ zeros (cutOut b (j * dirWidth + 2 + k) (j * dirWidth + dirWidth)) e ∙ rw n
 
 dirs-back : (b : List ℕ) (i k : ℕ) → (i + k) * dirWidth ≤ length b → ((j : ℕ) → i ≤ j → j < i + k → dirFits b j ≡ true)
     → cat dirRow (tab (dirAt b) i k) ++ drop ((i + k) * dirWidth) b ≡ drop (i * dirWidth) b
@@ -283,7 +283,7 @@ dirs-back b i (suc k) h f =
     ∙ ap (λ (n : ℕ). drop n b) (sym y) ∙ sym (drop-drop dirWidth (i * dirWidth) b))
     ∙ take-append-drop dirWidth (drop (i * dirWidth) b)
 
-dirs-flat-of : (cap m : ℕ) (b : List ℕ) → m ≤ cap → length b ≡ cap * dirWidth → isZero (part b (m * dirWidth) (length b)) ≡ true → allOf (dirFits b) 0 m ≡ true → FlatDirs cap m b
+dirs-flat-of : (cap m : ℕ) (b : List ℕ) → m ≤ cap → length b ≡ cap * dirWidth → isZero (cutOut b (m * dirWidth) (length b)) ≡ true → allOf (dirFits b) 0 m ≡ true → FlatDirs cap m b
 unfolding flatDirs dirsOf
 dirs-flat-of cap m b h a z f =
     let z₀ : 0 * dirWidth ≡ 0 = omega arith in
@@ -301,9 +301,9 @@ pub fit-dirs : (b : Bufs) → Sized (b .pool) (length (b .nums)) (length (b .nam
     → FlatDirs (b .pool .chosen .«dir_rows») (b .pool .dirs) (b .dirs)
 unfolding restOk fitsOk
 fit-dirs b S r f =
-    let r1 = both (isZero (part (b .nums) (b .pool .held * rowWidth) (length (b .nums)))) _ r in
-    let r2 = both (isZero (part (b .names) (b .pool .held * maxPath) (length (b .names)))) _ (r1 .1) in
-    let r3 = both (isZero (part (b .dirs) (b .pool .dirs * dirWidth) (length (b .dirs)))) _ (r2 .1) in
+    let r1 = both (isZero (cutOut (b .nums) (b .pool .held * rowWidth) (length (b .nums)))) _ r in
+    let r2 = both (isZero (cutOut (b .names) (b .pool .held * maxPath) (length (b .names)))) _ (r1 .1) in
+    let r3 = both (isZero (cutOut (b .dirs) (b .pool .dirs * dirWidth) (length (b .dirs)))) _ (r2 .1) in
     let f1 = both (allOf (rowFits (b .nums) (b .names)) 0 (b .pool .held)) _ f in
     dirs-flat-of (b .pool .chosen .«dir_rows») (b .pool .dirs) (b .dirs) (S .dirs) (S .dirs-long) (r3 .0) (f1 .1)
 
@@ -334,7 +334,7 @@ dir-tested cap m b F j h =
 
 -- ---- the queue
 
-cells-back : (n : ℕ) (q : List ℕ) → length q ≡ 64 → n ≤ 64 → isZero (part q n 64) ≡ true → pad 64 (take n q) ≡ q
+cells-back : (n : ℕ) (q : List ℕ) → length q ≡ 64 → n ≤ 64 → isZero (cutOut q n 64) ≡ true → pad 64 (take n q) ≡ q
 cells-back n q k h z =
     refill 64 n (take n q) q (take-append-drop n q) (length-take-le n q (omega arith)) h k (rw k z)
 
@@ -342,7 +342,7 @@ pub fit-queue : (b : Bufs) → Sized (b .pool) (length (b .nums)) (length (b .na
     → pad 64 (take (b .pool .free) (b .pool .queue)) ≡ b .pool .queue
 unfolding restOk
 fit-queue b S r =
-    let r1 = both (isZero (part (b .nums) (b .pool .held * rowWidth) (length (b .nums)))) _ r in
-    let r2 = both (isZero (part (b .names) (b .pool .held * maxPath) (length (b .names)))) _ (r1 .1) in
-    let r3 = both (isZero (part (b .dirs) (b .pool .dirs * dirWidth) (length (b .dirs)))) _ (r2 .1) in
+    let r1 = both (isZero (cutOut (b .nums) (b .pool .held * rowWidth) (length (b .nums)))) _ r in
+    let r2 = both (isZero (cutOut (b .names) (b .pool .held * maxPath) (length (b .names)))) _ (r1 .1) in
+    let r3 = both (isZero (cutOut (b .dirs) (b .pool .dirs * dirWidth) (length (b .dirs)))) _ (r2 .1) in
     cells-back (b .pool .free) (b .pool .queue) (S .queue-long) (S .free) (r3 .1)

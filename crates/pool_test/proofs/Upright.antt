@@ -23,7 +23,7 @@ use Rattle.path.proofs.Slashes.{short}
 use Rattle.dir_rows.specs.Dirs.{hasPath}
 use Rattle.dir_rows.specs.Rows.{dirAt, dirsOf}
 use Rattle.dir_rows.proofs.Joined.{in-has, has-one, has-in, has-normal}
-use Rattle.pool_test.specs.Test.{part, firstHeld, upHeld, dirOk}
+use Rattle.pool_test.specs.Test.{cutOut, firstHeld, upHeld, dirOk}
 use Rattle.pool_test.specs.Keys.{isDir, hasDir, Tail, Upright, Fine, Judged}
 use Rattle.pool_test.proofs.FlatForms.{both, and-of, part-rest}
 use Rattle.pool_test.proofs.Exactly.{in-dirs, dirs-in, dir-says, normals}
@@ -68,7 +68,7 @@ normal-cut x e h k s =
     ∙ sym (ap₂ (λ (t u : Bool). t && u) (told (take e x) (rw (length-take-le e x (omega arith)) h)) (told (drop e x) (rw (length-drop e x) (omega arith))))
 
 -- the tail that is lent
-pub tail-told : (x : List ℕ) (k : ℕ) (r t : Bool) → r ≡ sameBytes (normal (part x k (length x))) (part x k (length x)) → r ≡ t → sameBytes (normal (drop k x)) (drop k x) ≡ t
+pub tail-told : (x : List ℕ) (k : ℕ) (r t : Bool) → r ≡ sameBytes (normal (cutOut x k (length x))) (cutOut x k (length x)) → r ≡ t → sameBytes (normal (drop k x)) (drop k x) ≡ t
 tail-told x k r t e h = ap (λ (p : List ℕ). sameBytes (normal p) p) (sym (part-rest x k)) ∙ sym e ∙ h
 
 -- ---- one directory that fails

@@ -37,16 +37,16 @@ unfoldable pub isZero : List ℕ → Bool
 isZero l = eqb (greatest l) 0
 
 -- The part of l from a up to e.
-abbrev pub part : List ℕ → ℕ → ℕ → List ℕ
-part l a e = take (e - a) (drop a l)
+abbrev pub cutOut : List ℕ → ℕ → ℕ → List ℕ
+cutOut l a e = take (e - a) (drop a l)
 
 -- Rows past the counts are zero, and so are cells past the queue.
 unfoldable pub restOk : Bufs → Bool
 restOk b =
-    isZero (part (b .nums) (b .pool .held * rowWidth) (length (b .nums)))
-    && (isZero (part (b .names) (b .pool .held * maxPath) (length (b .names)))
-    && (isZero (part (b .dirs) (b .pool .dirs * dirWidth) (length (b .dirs)))
-    && isZero (part (b .pool .queue) (b .pool .free) 64)))
+    isZero (cutOut (b .nums) (b .pool .held * rowWidth) (length (b .nums)))
+    && (isZero (cutOut (b .names) (b .pool .held * maxPath) (length (b .names)))
+    && (isZero (cutOut (b .dirs) (b .pool .dirs * dirWidth) (length (b .dirs)))
+    && isZero (cutOut (b .pool .queue) (b .pool .free) 64)))
 
 -- An unbound row has no path and no length.
 unfoldable pub bareOk : ℕ → ℕ → ℕ → Bool
@@ -58,13 +58,13 @@ rowFits l s i =
     leb (getD l (i * rowWidth) 0) 2
     && (leb (getD l (i * rowWidth + 1) 0) maxPath
     && (bareOk (getD l (i * rowWidth) 0) (getD l (i * rowWidth + 1) 0) (getD l (i * rowWidth + 2) 0)
-    && isZero (part s (i * maxPath + getD l (i * rowWidth + 1) 0) (i * maxPath + maxPath))))
+    && isZero (cutOut s (i * maxPath + getD l (i * rowWidth + 1) 0) (i * maxPath + maxPath))))
 
 -- Directory row j is the row of some directory: a length in two bytes, and zeros behind the spelling.
 unfoldable pub dirFits : List ℕ → ℕ → Bool
 dirFits b j =
     sameBytes (le 2 (field b (j * dirWidth) 2)) (take 2 (drop (j * dirWidth) b))
-    && (leb (field b (j * dirWidth) 2) maxPath && isZero (part b (j * dirWidth + 2 + field b (j * dirWidth) 2) (j * dirWidth + dirWidth)))
+    && (leb (field b (j * dirWidth) 2) maxPath && isZero (cutOut b (j * dirWidth + 2 + field b (j * dirWidth) 2) (j * dirWidth + dirWidth)))
 
 -- ---- what the view says
 

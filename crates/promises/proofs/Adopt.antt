@@ -14,7 +14,7 @@ use Rattle.limits.specs.Limits.{lastCounter}
 use Rattle.lists.specs.Runs.{tab}
 use Rattle.device.specs.declared.Place.{Place}
 use Rattle.device.specs.declared.Geometry.{Geometry}
-use Rattle.device.specs.Device.{Dev, dev, Shape, turn, after, stops, given}
+use Rattle.device.specs.Device.{Dev, dev, Shape, turn, onward, stops, given}
 use Rattle.device.specs.AnyDevice.{look}
 use Rattle.device.specs.Calls.{blockOf}
 use Rattle.device.proofs.CallByCall.{be-may}
@@ -45,8 +45,8 @@ untouched-now plan k p u = rw (add-zero (p .at)) at (u 0 (omega arith))
 zero-neither : (x : ℕ) → x ≡ 0 → (x ≢ 1) × (x ≢ 2)
 zero-neither x e = (λ h. omega arith, λ h. omega arith)
 
-untouched-next : (plan : List ℕ) (k o : ℕ) (p : Place) → Untouched plan (suc k) p → Untouched plan k (after plan o p)
-unfolding Untouched after
+untouched-next : (plan : List ℕ) (k o : ℕ) (p : Place) → Untouched plan (suc k) p → Untouched plan k (onward plan o p)
+unfolding Untouched onward
 untouched-next plan k o p u j l = go (ltb (p .at) (length plan)) refl
   where
     go : (t : Bool) → ltb (p .at) (length plan) ≡ t

@@ -11,7 +11,7 @@ use lib.Seq.{take-all, take-length, drop-length, take-at, drop-at, drop-cons, ta
 use Rattle.lists.specs.declared.Ordering.{Ordering}
 use Rattle.lists.specs.Sort.{insert, sort, isLess}
 use Rattle.path.specs.Path.{pathOrder}
-use Rattle.row_order.specs.Spans.{spelled, AllInside, before}
+use Rattle.row_order.specs.Spans.{spelled, AllInside, spanBefore}
 use Rattle.row_order.specs.Risen.{Risen, Levels, place, place-is, place-few, risen-up, risen-sort, insert-place}
 use Rattle.row_order.specs.InOrder.{before-levels, length-sorted, inside-get, inside-drop, inside-more, inside-sort}
 
@@ -19,8 +19,8 @@ use Rattle.row_order.specs.InOrder.{before-levels, length-sorted, inside
 
 pub way-told : (b : List ℕ) (x y : ℕ) (w v : Ordering)
     → w ≡ pathOrder (take (x / 512 + x % 512 - x / 512) (drop (x / 512) b)) (take (y / 512 + y % 512 - y / 512) (drop (y / 512) b))
-    → w ≡ v → isLess v ≡ before b x y
-unfolding before spelled
+    → w ≡ v → isLess v ≡ spanBefore b x y
+unfolding spanBefore spelled
 way-told b x y w v e h = rw (add-sub-cancel-left (x / 512) (x % 512), add-sub-cancel-left (y / 512) (y % 512)) at (ap isLess (sym h ∙ e))
 
 -- ---- the place of x in s
@@ -51,27 +51,27 @@ module _ (less : ℕ → ℕ → Bool) (x : ℕ) (s : List ℕ) where
         go j h false f = refl
 
 -- An element of what stands behind the first.
-pub behind : (b l : List ℕ) (mid : ℕ) {t : Bool} → before b (getD l 0 0) (getD l (mid + 1) 0) ≡ t → before b (getD l 0 0) (getD (drop 1 l) mid 0) ≡ t
+pub behind : (b l : List ℕ) (mid : ℕ) {t : Bool} → spanBefore b (getD l 0 0) (getD l (mid + 1) 0) ≡ t → spanBefore b (getD l 0 0) (getD (drop 1 l) mid 0) ≡ t
 behind b l mid e = let z : mid + 1 ≡ 1 + mid = omega arith in rw (getD-drop 1 l mid 0, ← z) e
 
 -- ---- each to its place
 
-pub sort-start : (b d : List ℕ) → d ≡ take (length d) d ++ sort (before b) (drop (length d) d)
+pub sort-start : (b d : List ℕ) → d ≡ take (length d) d ++ sort (spanBefore b) (drop (length d) d)
 unfolding sort
 sort-start b d = rw (drop-length, take-length) (sym (append-nil d))
 
-pub sort-end : (b d₀ d : List ℕ) (i : ℕ) → i ≤ 0 → d ≡ take i d₀ ++ sort (before b) (drop i d₀) → d ≡ sort (before b) d₀
+pub sort-end : (b d₀ d : List ℕ) (i : ℕ) → i ≤ 0 → d ≡ take i d₀ ++ sort (spanBefore b) (drop i d₀) → d ≡ sort (spanBefore b) d₀
 sort-end b d₀ d i h e = let z : i ≡ 0 = omega arith in rw z at e
 
-pub sorted-long : (b d₀ d : List ℕ) (i : ℕ) → d ≡ take i d₀ ++ sort (before b) (drop i d₀) → length d ≡ length d₀
+pub sorted-long : (b d₀ d : List ℕ) (i : ℕ) → d ≡ take i d₀ ++ sort (spanBefore b) (drop i d₀) → length d ≡ length d₀
 sorted-long b d₀ d i e =
-    let s = length-sorted (before b) (drop i d₀) in
+    let s = length-sorted (spanBefore b) (drop i d₀) in
     ap length e ∙ simp (length-append, length-take) (omega (arith, s, length-drop i d₀))
 
 -- What is lent to find the place, behind turn i: element i of the list, and the sort of those behind it.
-module _ (b d₀ d : List ℕ) (i p : ℕ) (z : i ≡ suc p) (h : p < length d₀) (e : d ≡ take i d₀ ++ sort (before b) (drop i d₀)) where
+module _ (b d₀ d : List ℕ) (i p : ℕ) (z : i ≡ suc p) (h : p < length d₀) (e : d ≡ take i d₀ ++ sort (spanBefore b) (drop i d₀)) where
   abbrev rest : List ℕ
-  rest = sort (before b) (drop (suc p) d₀)
+  rest = sort (spanBefore b) (drop (suc p) d₀)
 
   whole : d ≡ take p d₀ ++ (getD d₀ p 0 ∷ rest)
   whole = e ∙ rw (z, take-suc d₀ p 0 h) (append-assoc (take p d₀) (getD d₀ p 0 ∷ []) rest)
@@ -90,28 +90,28 @@ module _ (b d₀ d : List ℕ) (i p : ℕ) (z : i ≡ suc p) (h : p < length d�
   part-inside : AllInside b d₀ → AllInside b (take (length d - p) (drop p d))
   part-inside a = rw part-is (inside-more b (getD d₀ p 0) rest (inside-get b d₀ p a h) (inside-sort b (drop (suc p) d₀) (inside-drop b d₀ (suc p) a)))
 
-  part-risen : Risen (before b) (drop 1 (take (length d - p) (drop p d)))
-  part-risen = rw part-is (risen-sort (before b) (before-levels b) (drop (suc p) d₀))
+  part-risen : Risen (spanBefore b) (drop 1 (take (length d - p) (drop p d)))
+  part-risen = rw part-is (risen-sort (spanBefore b) (before-levels b) (drop (suc p) d₀))
 
   -- so the element's place can be looked for
   pub part-ready : AllInside b d₀
-      → AllInside b (take (length d - p) (drop p d)) × (0 < length (take (length d - p) (drop p d))) × Risen (before b) (drop 1 (take (length d - p) (drop p d)))
+      → AllInside b (take (length d - p) (drop p d)) × (0 < length (take (length d - p) (drop p d))) × Risen (spanBefore b) (drop 1 (take (length d - p) (drop p d)))
   part-ready a = (part-inside a, omega (arith, part-long), part-risen)
 
-  module _ (k : ℕ) (g : k ≡ place (before b) (getD (take (length d - p) (drop p d)) 0 0) (drop 1 (take (length d - p) (drop p d)))) where
-    placed : k ≡ place (before b) (getD d₀ p 0) rest
+  module _ (k : ℕ) (g : k ≡ place (spanBefore b) (getD (take (length d - p) (drop p d)) 0 0) (drop 1 (take (length d - p) (drop p d)))) where
+    placed : k ≡ place (spanBefore b) (getD d₀ p 0) rest
     placed = rw part-is at g
 
     pub place-fits : k < length (take (length d - p) (drop p d))
-    place-fits = omega (arith, part-long, placed, place-few (before b) (getD d₀ p 0) rest)
+    place-fits = omega (arith, part-long, placed, place-few (spanBefore b) (getD d₀ p 0) rest)
 
     -- and with the element in its place one more is sorted
     pub sort-turn : (ys l : List ℕ) → ys ≡ take k (drop 1 (take (length d - p) (drop p d))) ++ (getD (take (length d - p) (drop p d)) 0 0 ∷ drop (k + 1) (take (length d - p) (drop p d)))
-        → l ≡ take p d ++ (ys ++ drop (length d - p) (drop p d)) → l ≡ take p d₀ ++ sort (before b) (drop p d₀)
+        → l ≡ take p d ++ (ys ++ drop (length d - p) (drop p d)) → l ≡ take p d₀ ++ sort (spanBefore b) (drop p d₀)
     unfolding sort
     sort-turn ys l f w =
         let x = getD d₀ p 0 in
-        let y : ys ≡ insert (before b) x rest = (rw (part-is, add-one) at f) ∙ rw placed (sym (insert-place (before b) x rest)) in
+        let y : ys ≡ insert (spanBefore b) x rest = (rw (part-is, add-one) at f) ∙ rw placed (sym (insert-place (spanBefore b) x rest)) in
         let t : take p d ≡ take p d₀ = ap (take p) whole ∙ take-at (take p d₀) (x ∷ rest) p front in
         let n : drop (length d - p) (drop p d) ≡ [] = drop-of-length-le (drop p d) {i = length d - p} (rw length-drop (omega arith)) in
         w ∙ rw (t, n, append-nil, y, drop-cons d₀ p 0 h)

@@ -11,7 +11,7 @@ use Rattle.lists.specs.Runs.{range, tab}
 use Rattle.lists.specs.Sort.{sort}
 use Rattle.dir_rows.specs.Rows.{dirAt, dirsOf}
 use Rattle.dir_rows.proofs.InBuffer.{length-dirs}
-use Rattle.row_order.specs.Spans.{spelled, before, inOrder, dirSpan, dirSpans, AllInside}
+use Rattle.row_order.specs.Spans.{spelled, spanBefore, inOrder, dirSpan, dirSpans, AllInside}
 use Rattle.row_order.specs.InOrder.{length-sorted, spelled-sort, inside-sort}
 use Rattle.row_order.specs.Picks.{picks-inside, dir-spans, dir-inside, dir-spelled, row-spells}
 
@@ -44,10 +44,10 @@ module _ (b : List ℕ) (m : ℕ) (h : m * dirWidth ≤ length b) where
   -- ---- in order
 
   abbrev sorted : List ℕ
-  sorted = sort (before b) (dirSpans ds)
+  sorted = sort (spanBefore b) (dirSpans ds)
 
   pub sorted-many : length sorted ≡ m
-  sorted-many = length-sorted (before b) (dirSpans ds) ∙ dirs-many
+  sorted-many = length-sorted (spanBefore b) (dirSpans ds) ∙ dirs-many
 
   pub sorted-inside : AllInside b sorted
   sorted-inside = inside-sort b (dirSpans ds) dirs-inside

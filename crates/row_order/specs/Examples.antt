@@ -4,7 +4,7 @@ use mathlib.Core.List.{[], _∷_}
 use Rattle.lists.specs.Order.{cmpNat, lex}
 use Rattle.lists.specs.Sort.{insert, sort}
 use Rattle.path.specs.Path.{grow, cut, split, idle, names, opening, components, isRoot, slash, join, normal, pathOrder}
-use Rattle.row_order.specs.Spans.{span, spelled, before, pathBefore, inOrder}
+use Rattle.row_order.specs.Spans.{span, spelled, spanBefore, pathBefore, inOrder}
 
 -- `a.b` comes before `a/b`, and `a` before both
 dot-before-slash : inOrder ((97 ∷ 47 ∷ 98 ∷ []) ∷ (97 ∷ 46 ∷ 98 ∷ []) ∷ (97 ∷ []) ∷ []) ≡ (97 ∷ []) ∷ (97 ∷ 46 ∷ 98 ∷ []) ∷ (97 ∷ 47 ∷ 98 ∷ []) ∷ []

@@ -9,17 +9,17 @@ use Rattle.lists.specs.Order.{byteOrder, byteOrders}
 use Rattle.lists.specs.Sort.{Strict, insert, sort, all-sort, by-strict}
 use Rattle.path.specs.Path.{normal, pathOrder}
 use Rattle.path.specs.Theorems.{order-ranks}
-use Rattle.row_order.specs.Spans.{spelled, Inside, AllInside, before, pathBefore, inOrder}
+use Rattle.row_order.specs.Spans.{spelled, SpanInside, AllInside, spanBefore, pathBefore, inOrder}
 use Rattle.row_order.specs.Risen.{Levels, by-levels}
 
 -- ---- the order
 
-pub before-strict : (b : List ℕ) → Strict (before b)
-unfolding before
+pub before-strict : (b : List ℕ) → Strict (spanBefore b)
+unfolding spanBefore
 before-strict b = by-strict pathOrder (spelled b) order-ranks
 
-pub before-levels : (b : List ℕ) → Levels (before b)
-unfolding before pathOrder
+pub before-levels : (b : List ℕ) → Levels (spanBefore b)
+unfolding spanBefore pathOrder
 before-levels b = by-levels byteOrder (λ (x : ℕ). normal (spelled b x)) byteOrders
 
 -- ---- the sort
@@ -56,13 +56,13 @@ module _ {A B : Type 0} (f : A → B) (less : A → A → Bool) (less′ : B →
   map-sort (x ∷ xs) = map-insert x (sort less xs) ∙ ap (insert less′ (f x)) (map-sort xs)
 
 -- What the parts spell, once they are sorted, is in order.
-pub spelled-sort : (b xs : List ℕ) → map (spelled b) (sort (before b) xs) ≡ inOrder (map (spelled b) xs)
-unfolding before inOrder pathBefore
-spelled-sort b xs = map-sort (spelled b) (before b) pathBefore (λ x y. refl) xs
+pub spelled-sort : (b xs : List ℕ) → map (spelled b) (sort (spanBefore b) xs) ≡ inOrder (map (spelled b) xs)
+unfolding spanBefore inOrder pathBefore
+spelled-sort b xs = map-sort (spelled b) (spanBefore b) pathBefore (λ x y. refl) xs
 
 -- ---- parts that lie inside
 
-pub inside-get : (b xs : List ℕ) (k : ℕ) → AllInside b xs → k < length xs → Inside b (getD xs k 0)
+pub inside-get : (b xs : List ℕ) (k : ℕ) → AllInside b xs → k < length xs → SpanInside b (getD xs k 0)
 unfolding AllInside
 inside-get b [] k a h = absurd (omega arith)
 inside-get b (x ∷ xs) zero a h = a .0
@@ -74,10 +74,10 @@ inside-drop b xs zero a = a
 inside-drop b [] (suc k) a = tt
 inside-drop b (x ∷ xs) (suc k) a = inside-drop b xs k (a .1)
 
-pub inside-more : (b : List ℕ) (x : ℕ) (xs : List ℕ) → Inside b x → AllInside b xs → AllInside b (x ∷ xs)
+pub inside-more : (b : List ℕ) (x : ℕ) (xs : List ℕ) → SpanInside b x → AllInside b xs → AllInside b (x ∷ xs)
 unfolding AllInside
 inside-more b x xs h a = (h, a)
 
-pub inside-sort : (b xs : List ℕ) → AllInside b xs → AllInside b (sort (before b) xs)
+pub inside-sort : (b xs : List ℕ) → AllInside b xs → AllInside b (sort (spanBefore b) xs)
 unfolding AllInside
-inside-sort b xs a = all-sort (before b) (Inside b) xs a
+inside-sort b xs a = all-sort (spanBefore b) (SpanInside b) xs a

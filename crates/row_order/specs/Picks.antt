@@ -16,7 +16,7 @@ use Rattle.slot_rows.specs.Rows.{Row, none, at, isBound, pathOf, rowsOf, Flat}
 use Rattle.slot_rows.proofs.InBuffers.{length-rows, name-part}
 use Rattle.dir_rows.specs.Rows.{dirAt, dirsOf}
 use Rattle.dir_rows.proofs.InBuffer.{length-dirs, dir-short, dir-part}
-use Rattle.row_order.specs.Spans.{span, spelled, Inside, AllInside, fileSpan, dirSpan, slotOf, fileSpans, dirSpans}
+use Rattle.row_order.specs.Spans.{span, spelled, SpanInside, AllInside, fileSpan, dirSpan, slotOf, fileSpans, dirSpans}
 
 -- ---- a loop that picks
 
@@ -72,11 +72,11 @@ picks-few f p i (suc k) = go (p i) (picks-few f p (suc i) k)
     go true h = omega arith
     go false h = omega arith
 
-pub picks-inside : (b : List ℕ) (f : ℕ → ℕ) (p : ℕ → Bool) (n : ℕ) → ((i : ℕ) → i < n → Inside b (f i)) → AllInside b (map f (keep p (range 0 n)))
+pub picks-inside : (b : List ℕ) (f : ℕ → ℕ) (p : ℕ → Bool) (n : ℕ) → ((i : ℕ) → i < n → SpanInside b (f i)) → AllInside b (map f (keep p (range 0 n)))
 unfolding AllInside
-picks-inside b f p n h = mapped (keep p (range 0 n)) (all-keep p (λ (i : ℕ). Inside b (f i)) (range 0 n) (all-range (λ (i : ℕ). Inside b (f i)) 0 n (λ i a k. h i (omega arith))))
+picks-inside b f p n h = mapped (keep p (range 0 n)) (all-keep p (λ (i : ℕ). SpanInside b (f i)) (range 0 n) (all-range (λ (i : ℕ). SpanInside b (f i)) 0 n (λ i a k. h i (omega arith))))
   where
-    mapped : (l : List ℕ) → All (λ (i : ℕ). Inside b (f i)) l → All (Inside b) (map f l)
+    mapped : (l : List ℕ) → All (λ (i : ℕ). SpanInside b (f i)) l → All (SpanInside b) (map f l)
     mapped [] a = tt
     mapped (x ∷ l) a = (a .0, mapped l (a .1))
 
@@ -119,7 +119,7 @@ part-spelled b start len h =
     let r : (start * 512 + len) % 512 ≡ len = omega arith in
     rw (q, r)
 
-part-inside : (b : List ℕ) (start len : ℕ) → len < 512 → start + len ≤ length b → Inside b (span start len)
+part-inside : (b : List ℕ) (start len : ℕ) → len < 512 → start + len ≤ length b → SpanInside b (span start len)
 part-inside b start len h k = omega arith
 
 -- what parts spell, one by one
@@ -132,7 +132,7 @@ module _ (cap n : ℕ) (l s : List ℕ) (F : Flat cap n l s) where
   rs = rowsOf l s n
 
   -- the part of a slot row lies in the names,
-  pub file-inside : (i : ℕ) → i < n → Inside s (fileSpan rs i)
+  pub file-inside : (i : ℕ) → i < n → SpanInside s (fileSpan rs i)
   unfolding fileSpan
   file-inside i h = part-inside s (i * maxPath) (length (pathOf (at rs i))) (omega (arith, F .short i)) (name-part cap n l s F i h _ refl .0)
 
@@ -168,7 +168,7 @@ module _ (m : ℕ) (b : List ℕ) (h : m * dirWidth ≤ length b) where
       go true e = rw (row-spells j (ltb-true j m e)) (dir-short b j)
       go false e = rw (List·getD-eq-default ds [] {n = j} (omega (arith, ltb-false j m e, length-dirs b m))) (omega arith)
 
-  pub dir-inside : (j : ℕ) → j < m → Inside b (dirSpan ds j)
+  pub dir-inside : (j : ℕ) → j < m → SpanInside b (dirSpan ds j)
   unfolding dirSpan
   dir-inside j k = part-inside b (j * dirWidth + 2) (length (getD ds j [])) (omega (arith, row-short j)) (omega (arith, row-short j))
 

@@ -29,16 +29,16 @@ unfoldable pub spelled : List ℕ → ℕ → List ℕ
 spelled b x = take (x % 512) (drop (x / 512) b)
 
 -- The part lies in b.
-abbrev pub Inside : List ℕ → ℕ → Type 0
-Inside b x = x / 512 + x % 512 ≤ length b
+abbrev pub SpanInside : List ℕ → ℕ → Type 0
+SpanInside b x = x / 512 + x % 512 ≤ length b
 
 -- So does each of them.
 unfoldable pub AllInside : List ℕ → List ℕ → Type 0
-AllInside b xs = All (Inside b) xs
+AllInside b xs = All (SpanInside b) xs
 
 -- The path of the part x comes before that of y.
-unfoldable pub before : List ℕ → ℕ → ℕ → Bool
-before b = by pathOrder (spelled b)
+unfoldable pub spanBefore : List ℕ → ℕ → ℕ → Bool
+spanBefore b = by pathOrder (spelled b)
 
 -- ---- the parts of rows
 

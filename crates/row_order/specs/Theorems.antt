@@ -13,7 +13,7 @@ use Rattle.path.specs.Path.{components, pathOrder}
 use Rattle.path.specs.Theorems.{same-path, order-ranks, order-equal}
 use Rattle.slot_rows.specs.Rows.{rowsOf, Flat}
 use Rattle.dir_rows.specs.Rows.{dirsOf}
-use Rattle.row_order.specs.Spans.{pathBefore, inOrder, before, fileSpan, dirSpan, fileBefore, dirBefore}
+use Rattle.row_order.specs.Spans.{pathBefore, inOrder, spanBefore, fileSpan, dirSpan, fileBefore, dirBefore}
 use Rattle.row_order.specs.InOrder.{map-sort}
 use Rattle.row_order.specs.Picks.{file-spelled, dir-spelled}
 
@@ -44,16 +44,16 @@ module _ (path : ℕ → List ℕ) (p : ℕ → Bool) (n : ℕ)
 
 -- Parts of slot rows are sorted as the rows are,
 pub files-sorted : (cap n : ℕ) (l s : List ℕ) → Flat cap n l s → (is : List ℕ)
-    → sort (before s) (map (fileSpan (rowsOf l s n)) is) ≡ map (fileSpan (rowsOf l s n)) (sort (fileBefore (rowsOf l s n)) is)
-unfolding before fileBefore
+    → sort (spanBefore s) (map (fileSpan (rowsOf l s n)) is) ≡ map (fileSpan (rowsOf l s n)) (sort (fileBefore (rowsOf l s n)) is)
+unfolding spanBefore fileBefore
 files-sorted cap n l s F is =
     let rs = rowsOf l s n in
-    sym (map-sort (fileSpan rs) (fileBefore rs) (before s) (λ x y. rw (file-spelled cap n l s F x, file-spelled cap n l s F y)) is)
+    sym (map-sort (fileSpan rs) (fileBefore rs) (spanBefore s) (λ x y. rw (file-spelled cap n l s F x, file-spelled cap n l s F y)) is)
 
 -- and those of directory rows too.
 pub dirs-sorted : (m : ℕ) (b : List ℕ) → m * dirWidth ≤ length b → (js : List ℕ)
-    → sort (before b) (map (dirSpan (dirsOf b m)) js) ≡ map (dirSpan (dirsOf b m)) (sort (dirBefore (dirsOf b m)) js)
-unfolding before dirBefore
+    → sort (spanBefore b) (map (dirSpan (dirsOf b m)) js) ≡ map (dirSpan (dirsOf b m)) (sort (dirBefore (dirsOf b m)) js)
+unfolding spanBefore dirBefore
 dirs-sorted m b h js =
     let ds = dirsOf b m in
-    sym (map-sort (dirSpan ds) (dirBefore ds) (before b) (λ x y. rw (dir-spelled m b h x, dir-spelled m b h y)) js)
+    sym (map-sort (dirSpan ds) (dirBefore ds) (spanBefore b) (λ x y. rw (dir-spelled m b h x, dir-spelled m b h y)) js)

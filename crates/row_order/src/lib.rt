@@ -12,7 +12,7 @@ ghost use Rattle.limits.specs.Limits.{dirWidth};
 ghost use Rattle.lists.specs.Sort.{sort};
 ghost use Rattle.slot_rows.specs.Rows.{rowsOf, Flat};
 ghost use Rattle.dir_rows.specs.Rows.{dirsOf};
-ghost use Rattle.row_order.specs.Spans.{span, before, Inside, AllInside, fileSpan, dirSpan, slotOf, fileSpans, dirSpans};
+ghost use Rattle.row_order.specs.Spans.{span, spanBefore, SpanInside, AllInside, fileSpan, dirSpan, slotOf, fileSpans, dirSpans};
 ghost use Rattle.row_order.specs.Risen.{Risen, place};
 
 // The part of a buffer that starts at a place and has a length, as one number.
@@ -25,8 +25,8 @@ pub fn span(start: usize, len: usize) -> u32
 
 // Whether the path of the part x comes before that of y.
 fn comes_before(bytes: &[u8], x: u32, y: u32) -> bool
-    requires { ⌜ Inside (now bytes) x × Inside (now bytes) y ⌝ }
-    ensures { λ r. ⌜ r ≡ before (now (bytes .entry)) x y ⌝ }
+    requires { ⌜ SpanInside (now bytes) x × SpanInside (now bytes) y ⌝ }
+    ensures { λ r. ⌜ r ≡ spanBefore (now (bytes .entry)) x y ⌝ }
 {
     let a = (x / 512) as usize;
     let m = (x % 512) as usize;
@@ -43,8 +43,8 @@ fn comes_before(bytes: &[u8], x: u32, y: u32) -> bool
 // How many of the parts behind the first come before it or are level with it: they are in order, so a half of them is set aside at each
 // look.
 fn place_of(bytes: &[u8], spans: &[u32]) -> usize
-    requires { ⌜ AllInside (now bytes) (now spans) × (0 < length (now spans)) × Risen (before (now bytes)) (drop 1 (now spans)) ⌝ }
-    ensures { λ r. ⌜ r ≡ place (before (now (bytes .entry))) (getD (now (spans .entry)) 0 0) (drop 1 (now (spans .entry))) ⌝ }
+    requires { ⌜ AllInside (now bytes) (now spans) × (0 < length (now spans)) × Risen (spanBefore (now bytes)) (drop 1 (now spans)) ⌝ }
+    ensures { λ r. ⌜ r ≡ place (spanBefore (now (bytes .entry))) (getD (now (spans .entry)) 0 0) (drop 1 (now (spans .entry))) ⌝ }
 {
     let x = spans[0];
     let mut low = 0;
@@ -79,7 +79,7 @@ fn move_first(spans: &mut [u32], k: usize)
 // Puts the parts in order, from the last to the first: each goes to its place among those behind it.
 pub fn sort(bytes: &[u8], spans: &mut [u32])
     requires { ⌜ AllInside (now bytes) (now spans) ⌝ }
-    ensures { λ _. ⌜ now (spans .exit) ≡ sort (before (now (bytes .entry))) (now (spans .entry)) ⌝ }
+    ensures { λ _. ⌜ now (spans .exit) ≡ sort (spanBefore (now (bytes .entry))) (now (spans .entry)) ⌝ }
 {
     let mut i = spans.len();
     while 0 < i {

@@ -21,7 +21,7 @@ use Rattle.output.proofs.InParts.{pours-none, pours-append, pours-all, pours-th
 use Rattle.script_format.specs.declared.Op.{Op}
 use Rattle.script_format.specs.declared.Setup.{Setup}
 use Rattle.script_format.specs.declared.Span.{Span}
-use Rattle.script_format.specs.Format.{noSpan, part, opAt, operations, setupAt, lengthAt, Patching, patching, patchAt, patchedM}
+use Rattle.script_format.specs.Format.{noSpan, runIn, opAt, operations, setupAt, lengthAt, Patching, patching, patchAt, patchedM}
 use Rattle.script_format.specs.Reading.{patch-end, Held, Sound, op-sound}
 use Rattle.script_tables.specs.Tables.{recordShown, deviceShown}
 use Rattle.script_step.specs.Operate.{Said, said, opM, Reached, reached, spoken}
@@ -79,7 +79,7 @@ closed-parts x o t l e = (ap (λ (r : Reached). r .shown) e, ap (λ (r : Reached
 -- ---- the start
 
 pub rows-are : (s : List ℕ) (u : Setup) (d h : List ℕ) (i : ℕ) (q : Pool) (l n e : List ℕ) → q ≡ zeroPool → l ≡ zeros (u .rows * rowWidth) → n ≡ zeros (u .rows * maxPath) → e ≡ zeros (u .«dir_rows» * dirWidth)
-    → runM s (part s (u .plan)) (geometryOf u) (operations (length s) s i) (lent (dev d h startPlace) (bufs q l n e)) ≡ ranM s u d h i
+    → runM s (runIn s (u .plan)) (geometryOf u) (operations (length s) s i) (lent (dev d h startPlace) (bufs q l n e)) ≡ ranM s u d h i
 unfolding ranM startM
 rows-are s u d h i q l n e eq el en ee = rw (eq, el, en, ee)
 

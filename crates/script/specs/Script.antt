@@ -14,7 +14,7 @@ use Rattle.mount.specs.Mount.{zeroPool}
 use Rattle.output.specs.Writer.{Shown, pours}
 use Rattle.script_format.specs.declared.Op.{Op}
 use Rattle.script_format.specs.declared.Setup.{Setup}
-use Rattle.script_format.specs.Format.{part, operations, setupAt, lengthAt, Patching, patchedM}
+use Rattle.script_format.specs.Format.{runIn, operations, setupAt, lengthAt, Patching, patchedM}
 use Rattle.script_tables.specs.Tables.{recordShown, deviceShown}
 use Rattle.script_step.specs.Operate.{Said, said, opM, Reached, reached}
 
@@ -57,7 +57,7 @@ startM u d h = lent (dev d h startPlace) (bufs zeroPool (zeros (u .rows * rowWid
 
 -- The operations from i on, from that start.
 unfoldable pub ranM : List ℕ → Setup → List ℕ → List ℕ → ℕ → Said
-ranM s u d h i = runM s (part s (u .plan)) (geometryOf u) (operations (length s) s i) (startM u d h)
+ranM s u d h i = runM s (runIn s (u .plan)) (geometryOf u) (operations (length s) s i) (startM u d h)
 
 -- ---- the script
 

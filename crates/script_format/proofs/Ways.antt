@@ -16,7 +16,7 @@ use Rattle.script_format.specs.declared.Span.{Span}
 use Rattle.script_format.specs.declared.Form.{Form}
 use Rattle.script_format.specs.declared.Op.{Op}
 use Rattle.script_format.specs.declared.Setup.{Setup}
-use Rattle.script_format.specs.Format.{span, noSpan, spanAt, spanIf, part, form, forms, lastCode, formOf, noForm, noOp, opOf, runsAt}
+use Rattle.script_format.specs.Format.{span, noSpan, spanAt, spanIf, runIn, form, forms, lastCode, formOf, noForm, noOp, opOf, runsAt}
 use Rattle.script_format.specs.Format.{argsOf, opAt, limitsOk, noSetup, behindPlan, setupAt, lengthAt, Patching, patching, placed, patchAt, patchedM}
 
 -- ---- runs
@@ -166,7 +166,7 @@ module _ (s : List ℕ) (i : ℕ) (d : List ℕ) where
       unfolding patchAt placed
       patch-outside l = rw (le-leb _ _ h, ← er, w, ← ep, lt-leb _ _ l)
 
-      pub patch-inside : (d′ : List ℕ) (n : ℕ) → place + (r .to - r .from) ≤ length d → shown d′ n ≡ pours (part s r) (shown d place) → patching r d′ ≡ patchAt s i d
+      pub patch-inside : (d′ : List ℕ) (n : ℕ) → place + (r .to - r .from) ≤ length d → shown d′ n ≡ pours (runIn s r) (shown d place) → patching r d′ ≡ patchAt s i d
       unfolding patchAt placed pours
       patch-inside d′ n l e = ap (patching r) (ap (λ (o : Shown). o .out) e) ∙ rw (le-leb _ _ h, ← er, w, ← ep, le-leb _ _ l)
 

@@ -32,8 +32,8 @@ unfoldable pub spanIf : Bool → List ℕ → ℕ → Span
 spanIf wanted s i = cond wanted (spanAt s i) (span i i true)
 
 -- The bytes of a run.
-abbrev pub part : List ℕ → Span → List ℕ
-part s r = take (r .to - r .from) (drop (r .from) s)
+abbrev pub runIn : List ℕ → Span → List ℕ
+runIn s r = take (r .to - r .from) (drop (r .from) s)
 
 -- ---- operations
 
@@ -186,7 +186,7 @@ patching r d = record { run = r; bytes = d }
 -- The run r, laid over the device d from `place` on: not where "a patch [is] outside of the device".
 unfoldable pub placed : List ℕ → ℕ → Span → List ℕ → Patching
 placed s place r d =
-    cond (r .whole && leb (place + (r .to - r .from)) (length d)) (patching r (sets d place (part s r))) (patching noSpan d)
+    cond (r .whole && leb (place + (r .to - r .from)) (length d)) (patching r (sets d place (runIn s r))) (patching noSpan d)
 
 unfoldable pub patchAt : List ℕ → ℕ → List ℕ → Patching
 patchAt s i d = cond (leb (i + 4) (length s)) (placed s (field s i 4) (spanAt s (i + 4)) d) (patching noSpan d)

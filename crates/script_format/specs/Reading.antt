@@ -17,7 +17,7 @@ use Rattle.script_format.specs.declared.Form.{Form}
 use Rattle.script_format.specs.declared.Op.{Op}
 use Rattle.script_format.specs.declared.Setup.{Setup}
 use Rattle.script_format.specs.Format.{span, noSpan, spanAt, spanIf, forms, lastCode, formOf, noForm, noOp, opOf, runsAt}
-use Rattle.script_format.specs.Format.{argsOf, opAt, part, Patching, patching, placed, patchAt, limitsOk, noSetup, behindPlan, setupAt}
+use Rattle.script_format.specs.Format.{argsOf, opAt, runIn, Patching, patching, placed, patchAt, limitsOk, noSetup, behindPlan, setupAt}
 
 -- A run lies inside of the script, behind the place i where it was looked for if it is whole.
 pub record Inside (s : List ℕ) (i : ℕ) (r : Span) : Type 0 where
@@ -173,7 +173,7 @@ pub patch-end : (s : List ℕ) (i : ℕ) (d : List ℕ) (r : Span) (d′ : List 
 unfolding patchAt placed
 patch-end s i d r d′ e = rw (ap (λ (p : Patching). p .run .to) e) (go (leb (i + 4) (length s)) (spanAt s (i + 4) .whole && leb (field s i 4 + (spanAt s (i + 4) .to - spanAt s (i + 4) .from)) (length d)))
   where
-    go : (a b : Bool) → cond a (cond b (patching (spanAt s (i + 4)) (sets d (field s i 4) (part s (spanAt s (i + 4))))) (patching noSpan d)) (patching noSpan d) .run .to ≤ length s
+    go : (a b : Bool) → cond a (cond b (patching (spanAt s (i + 4)) (sets d (field s i 4) (runIn s (spanAt s (i + 4))))) (patching noSpan d)) (patching noSpan d) .run .to ≤ length s
     go true true = span-inside s (i + 4) .end
     go true false = omega arith
     go false b = omega arith

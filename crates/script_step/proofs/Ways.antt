@@ -14,7 +14,7 @@ use Rattle.device.specs.declared.Geometry.{Geometry}
 use Rattle.pool_steps.specs.World.{Lent}
 use Rattle.script_format.specs.declared.Op.{Op}
 use Rattle.script_format.specs.declared.Form.{Form}
-use Rattle.script_format.specs.Format.{part, formOf}
+use Rattle.script_format.specs.Format.{runIn, formOf}
 use Rattle.output.specs.Writer.{Shown, pours}
 use Rattle.output.proofs.InParts.{after-pours}
 use Rattle.calls_gate.specs.declared.Call.{Call}
@@ -132,7 +132,7 @@ fresh-front n m x w e h =
 
 -- the call, and its answer put out
 pub answered-is : (s plan : List ℕ) (g : Geometry) (o : Op) (l : Lent) (c : Came) (buf : List ℕ) (x x′ : Shown)
-    → c ≡ callP plan g (callOf o) (part s (o .first)) (part s (o .second)) buf l → x′ ≡ pours (saidOf o c .answer) x
+    → c ≡ callP plan g (callOf o) (runIn s (o .first)) (runIn s (o .second)) buf l → x′ ≡ pours (saidOf o c .answer) x
     → reached x′ (c .left) ≡ spoken (answeredM s plan g o buf l) x
 unfolding answeredM spoken
 answered-is s plan g o l c buf x x′ e h =

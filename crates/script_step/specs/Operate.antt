@@ -8,7 +8,7 @@ use Rattle.le.specs.Le.{le}
 use Rattle.device.specs.declared.Geometry.{Geometry}
 use Rattle.pool_steps.specs.World.{Lent}
 use Rattle.script_format.specs.declared.Op.{Op}
-use Rattle.script_format.specs.Format.{part, formOf}
+use Rattle.script_format.specs.Format.{runIn, formOf}
 use Rattle.output.specs.Writer.{Shown, pours}
 use Rattle.calls_gate.specs.declared.Call.{Call}
 use Rattle.calls_gate.specs.declared.Call.the-variants.{Mount, Adopt, OpenWrite, OpenRead, ReadAt, WriteAt, SetLen, FileLen}
@@ -79,7 +79,7 @@ saidOf o c = said (answerM o (c .number) (c .told) (c .buf)) (c .left)
 
 -- The call is handed this buffer.
 unfoldable pub answeredM : List ℕ → List ℕ → Geometry → Op → List ℕ → Lent → Said
-answeredM s plan g o buf l = saidOf o (callP plan g (callOf o) (part s (o .first)) (part s (o .second)) buf l)
+answeredM s plan g o buf l = saidOf o (callP plan g (callOf o) (runIn s (o .first)) (runIn s (o .second)) buf l)
 
 -- The buffer is "all 0xAA before the call".
 unfoldable pub opM : List ℕ → List ℕ → Geometry → Op → Lent → Said

@@ -11,7 +11,7 @@ ghost use mathlib.Core.Path.{_≡_};
 ghost use Prim.Native.Nat.{_+_, _^_, _≤_, _<_};
 ghost use lib.ListN.{length, replicate};
 ghost use Rattle.pool_steps.specs.World.{before, after};
-ghost use Rattle.script_format.specs.Format.{lastCode, part};
+ghost use Rattle.script_format.specs.Format.{lastCode, runIn};
 ghost use Rattle.script_format.specs.Reading.{Held};
 ghost use Rattle.output.specs.Writer.{shown, pours};
 ghost use Rattle.calls_gate.specs.Answers.{numberOf};
@@ -125,7 +125,7 @@ fn ask(
     requires { ⌜ Held (now script) op ⌝ }
     ensures { λ r. ⌜
         came (numberOf (r .answer)) (r .told) (after bytes phys (r .place) nums names dirs (r .pool)) (now (buf .exit))
-        ≡ callP (now (plan .entry)) geometry (callOf op) (part (now (script .entry)) (op .first)) (part (now (script .entry)) (op .second))
+        ≡ callP (now (plan .entry)) geometry (callOf op) (runIn (now (script .entry)) (op .first)) (runIn (now (script .entry)) (op .second))
         (now (buf .entry)) (before bytes phys place nums names dirs pool) ⌝ }
 {
     let call = call_of(op);

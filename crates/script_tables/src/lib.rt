@@ -15,7 +15,7 @@ ghost use Rattle.slot_rows.specs.Rows.{rowsOf, Flat};
 ghost use Rattle.dir_rows.specs.Rows.{dirsOf};
 ghost use Rattle.device.specs.Device.{dev};
 ghost use Rattle.pool_state.specs.State.{bufs, view, IsPool};
-ghost use Rattle.row_order.specs.Spans.{inOrder, before, spelled, dirSpans, AllInside};
+ghost use Rattle.row_order.specs.Spans.{inOrder, spanBefore, spelled, dirSpans, AllInside};
 ghost use Rattle.output.specs.Writer.{Puts, runOf};
 ghost use Rattle.script_tables.specs.Tables.{isIn, weight, marksAt, rowShown, dirsShown, poolShown, recordShown, deviceShown};
 
@@ -134,7 +134,7 @@ fn put_sorted(dirs: &[u8], m: usize, spans: &mut [u32], out: &mut [u8], at: usiz
     requires { ⌜ (m * dirWidth ≤ length (now dirs)) × (m ≤ 256) × (length (now spans) ≡ m) × (at < 2 ^ 61) ⌝ }
     ensures runs { λ r. ⌜ Puts (cat runOf (inOrder (dirsOf (now (dirs .entry)) m))) out at r ⌝ }
     ensures few { λ r. ⌜ r ≤ at + m * 514 ⌝ }
-    ensures parts { λ _. ⌜ now (spans .exit) ≡ sort (before (now (dirs .entry))) (dirSpans (dirsOf (now (dirs .entry)) m)) ⌝ }
+    ensures parts { λ _. ⌜ now (spans .exit) ≡ sort (spanBefore (now (dirs .entry))) (dirSpans (dirsOf (now (dirs .entry)) m)) ⌝ }
 {
     row_order::all_dirs(dirs, m, spans);
     row_order::sort(dirs, spans);
@@ -197,7 +197,7 @@ pub fn put_record(
 // Numbers, as u32 each.
 fn put_lengths(phys: &[u64], out: &mut [u8], at: usize) -> usize
     requires { ⌜ at < 2 ^ 62 ⌝ }
-    ensures { λ r. ⌜ Puts (cat (le 4) (now (phys .entry))) out at r ⌝ }
+    ensures puts { λ r. ⌜ Puts (cat (le 4) (now (phys .entry))) out at r ⌝ }
     ensures few { λ r. ⌜ r ≤ at + length (now (phys .entry)) * rowWidth ⌝ }
 {
     let mut a = at;

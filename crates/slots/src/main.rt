@@ -211,8 +211,8 @@ fn next_line(
 // Puts a part of a line behind the bytes that are held, as far as the buffer reaches, and gives how many are held then.
 fn append(line: &mut [u8], held: usize, part: &[u8]) -> usize
     requires { ⌜ held ≤ length (now line) ⌝ }
-    ensures { λ r. ⌜ take r (now (line .exit)) ≡ extended (now (line .entry)) held (now (part .entry)) ⌝ }
-    ensures { λ r. ⌜ r ≤ length (now (line .exit)) ⌝ }
+    ensures kept { λ r. ⌜ take r (now (line .exit)) ≡ extended (now (line .entry)) held (now (part .entry)) ⌝ }
+    ensures within { λ r. ⌜ r ≤ length (now (line .exit)) ⌝ }
 {
     let n = least(line.len() - held, part.len());
     bytes::copy(&part[..n], &mut line[held..]);

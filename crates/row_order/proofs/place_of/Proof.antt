@@ -2,7 +2,7 @@
 use Prim.Native.Nat.{_-_}
 use mathlib.Core.Path.{sym, _∙_}
 use lib.ListN.{getD, drop, length-drop}
-use Rattle.row_order.specs.Spans.{before}
+use Rattle.row_order.specs.Spans.{spanBefore}
 use Rattle.row_order.specs.InOrder.{before-levels, inside-get}
 use Rattle.row_order.proofs.Turns.{Narrow, narrow-start, narrow-end, narrow-down, narrow-up, behind}
 use native.Mathlib.Omega.{arith}
@@ -10,7 +10,7 @@ use Rattle.row_order.proofs.place_of.Statement.{statement}
 use Rattle.row_order.proofs.place_of.Tie as tie
 
 abbrev Inv-loop : tie.InvT-loop
-Inv-loop bytes spans x low₀ high₀ low high = Narrow (before bytes) (getD spans 0 0) (drop 1 spans) low high
+Inv-loop bytes spans x low₀ high₀ low high = Narrow (spanBefore bytes) (getD spans 0 0) (drop 1 spans) low high
 
 abbrev μ-loop : tie.MeasureT-loop
 μ-loop bytes spans x low₀ high₀ low high = high - low

@@ -4,14 +4,14 @@ use mathlib.Core.Path.{_≡_, refl}
 use mathlib.Core.List.{_++_}
 use lib.ListN.{length, take, drop}
 use Rattle.lists.specs.Sort.{sort}
-use Rattle.row_order.specs.Spans.{before}
+use Rattle.row_order.specs.Spans.{spanBefore}
 use Rattle.row_order.proofs.Turns.{part-ready, place-fits, sort-turn, sort-start, sort-end, sorted-long}
 use native.Mathlib.Omega.{arith}
 use Rattle.row_order.proofs.sort.Statement.{statement}
 use Rattle.row_order.proofs.sort.Tie as tie
 
 abbrev Inv-loop : tie.InvT-loop
-Inv-loop bytes spans₀ i₀ spans i = (i ≤ length spans₀) × (length spans ≡ length spans₀) × (spans ≡ take i spans₀ ++ sort (before bytes) (drop i spans₀))
+Inv-loop bytes spans₀ i₀ spans i = (i ≤ length spans₀) × (length spans ≡ length spans₀) × (spans ≡ take i spans₀ ++ sort (spanBefore bytes) (drop i spans₀))
 
 abbrev μ-loop : tie.MeasureT-loop
 μ-loop bytes spans₀ i₀ spans i = i

@@ -7,7 +7,7 @@ use Rattle.limits.specs.Limits.{dirWidth}
 use Rattle.lists.specs.Blocks.{cat}
 use Rattle.lists.specs.Sort.{sort}
 use Rattle.dir_rows.specs.Rows.{dirsOf}
-use Rattle.row_order.specs.Spans.{spelled, before, dirSpans, AllInside}
+use Rattle.row_order.specs.Spans.{spelled, spanBefore, dirSpans, AllInside}
 use Rattle.row_order.specs.AllDirs.{dirs-many, dirs-inside, sorted-many, sorted-inside, sorted-cat}
 use Rattle.output.specs.Writer.{shown, pours, runOf}
 use Rattle.script_tables.proofs.Turns.{sets-whole}
@@ -42,7 +42,7 @@ put-spans-requires c κs =
     let m = start .args .m in
     let h = start .pre .0 in
     let w = parts d m (start .args .spans .now) _ (start .pre .2) (at-all-dirs .all-dirs .ensures) h in
-    let e = at-sort .sort .ensures ∙ ap (sort (before d)) w in (
+    let e = at-sort .sort .ensures ∙ ap (sort (spanBefore d)) w in (
       subst (AllInside d) (sym e) (sorted-inside d m h),
       omega (arith, ap length e, sorted-many d m h, start .pre .1),
       start .pre .3,
@@ -64,7 +64,7 @@ returns c =
     let m = start .args .m in
     let h = start .pre .0 in
     let w = parts d m (start .args .spans .now) _ (start .pre .2) (at-all-dirs .all-dirs .ensures) h in
-    let e = at-sort .sort .ensures ∙ ap (sort (before d)) w in
+    let e = at-sort .sort .ensures ∙ ap (sort (spanBefore d)) w in
     let o = shown (start .args .out .now) (start .args .at) in
     let q = ap (cat (λ (x : ℕ). runOf (spelled d x))) e ∙ sorted-cat d m h runOf in (
       at-put-spans .put-spans .ensures .0 ∙ ap (λ (l : List ℕ). pours l o) q,
