@@ -61,7 +61,8 @@ def draw(lines):
         f'<svg xmlns="http://www.w3.org/2000/svg" viewBox="0 0 {wide} {high}" width="{wide}" height="{high}" role="img">',
         "<style>text{font-family:system-ui,sans-serif;fill:#223}.title{font-size:16px;font-weight:600}.head{font-size:14px;font-weight:600}"
         ".path{font-size:13px;font-family:ui-monospace,monospace}.line{font-size:12px}rect{stroke:#889;fill:#f6f7fa}"
-        ".won{fill:#dff3e3;stroke:#2c8a46;stroke-width:2}.lost{fill:#fbe6e2;stroke:#b5482f;stroke-width:2}path{fill:none;stroke:#2c8a46;stroke-width:2}"
+        ".won{fill:#dff3e3;stroke:#2c8a46;stroke-width:2}.lost{fill:#fbe6e2;stroke:#b5482f;stroke-width:2}"
+        "path{fill:none;stroke:#2c8a46;stroke-width:2}"
         ".gone{stroke:#b5482f;stroke-dasharray:5 4}</style>",
         f'<rect width="{wide}" height="{high}" style="fill:#fff;stroke:none"/>',
         text(LEFT, 32, "What the header of each slot says", "title"),
@@ -73,7 +74,11 @@ def draw(lines):
     for row, (words, style) in enumerate([
         (f"Mount: {name} goes to slot {winner}", "title"),
         (f"Its generation {generation} is the highest among the claims of that path, in whichever spelling; {lost} loses.", "line"),
-        (f"The loser is released under a new generation, and joins the free slots behind those that claimed nothing: {', '.join(map(str, queue))}.", "line"),
+        (
+            "The loser is released under a new generation, and joins the free slots behind those that claimed nothing: "
+            f"{', '.join(map(str, queue))}.",
+            "line",
+        ),
     ]):
         out.append(text(LEFT, middle + 6 + 22 * row, words, style))
     for i, header in enumerate(after):
@@ -82,7 +87,8 @@ def draw(lines):
         out += box(x, bottom, kind, header_lines(i, header))
         style = "" if i == winner else ' class="gone"' if i in losers else None
         if style is not None:
-            out.append(f'<path d="M{x + WIDE // 2} {TOP + HIGH} V{TOP + HIGH + 14}"{style}/><path d="M{x + WIDE // 2} {bottom - 14} V{bottom}"{style}/>')
+            out.append(f'<path d="M{x + WIDE // 2} {TOP + HIGH} V{TOP + HIGH + 14}"{style}/>')
+            out.append(f'<path d="M{x + WIDE // 2} {bottom - 14} V{bottom}"{style}/>')
     out.append(text(LEFT, bottom + HIGH + 32, "What the headers say after the mount: another mount finds the same holder.", "line"))
     return "\n".join(out + ["</svg>", ""])
 
