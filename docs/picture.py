@@ -1,6 +1,6 @@
 #!/usr/bin/env python3
 """Draws a mount from what the demo prints: what each slot's header said, who holds the name after the mount and why, and what the headers
-say then. In the repository's root, after `rt check demo`: target/bin/demo | docs/picture.py > docs/mount.svg"""
+say then. In the repository's root: ./run demo | docs/picture.py > docs/mount.svg"""
 
 import re
 import sys
