@@ -108,7 +108,8 @@ fn lay_out(texts: &[String]) {
     put(
         "opfs.rs",
         format!(
-            "#[path = {pool:?}]\n#[allow(dead_code, clippy::arc_with_non_send_sync)]\nmod pool;\n#[path = {sah:?}]\n#[allow(dead_code)]\nmod sah;\n{}{}",
+            "#[path = {pool:?}]\n#[allow(dead_code, clippy::arc_with_non_send_sync)]\nmod pool;\n\
+             #[path = {sah:?}]\n#[allow(dead_code)]\nmod sah;\n{}{}",
             cut(&texts[2], "pub(super) fn register_ancestors(", "\n}\n"),
             cut(&texts[2], "pub(super) fn not_found(", "\n}\n"),
         ),

@@ -5,7 +5,7 @@
 
 use model::Model;
 use script::make::Block;
-use script::{Handle, Machine, Op, Script, Setup, Tables};
+use script::{Handle, Machine, Op, Script, Setup, SlotHeader, Tables};
 
 /// Longer than any script's device calls, so that the plan's place counts them.
 const PLAN: usize = 80;
@@ -72,8 +72,31 @@ fn device(blocks: &[Option<Block>]) -> Setup {
     setup
 }
 
+/// Calls of slots, for scripts that have them between the pool's.
+fn slot_alphabet(slots: u8) -> Vec<Op> {
+    let header = |in_use, generation, path: &str| SlotHeader {
+        in_use,
+        length: 4,
+        generation,
+        path: path.as_bytes().to_vec(),
+    };
+    vec![
+        Op::ReadSlot(0, 0, 8),
+        Op::ReadSlot(1, 180, 600),
+        Op::WriteSlot(0, 2, vec![7, 8, 9]),
+        Op::WriteSlot(1, 511, vec![4, 5]),
+        Op::SyncSlot(0, header(1, 9, "a")),
+        Op::SyncSlot(1, header(255, 9, "d/a")),
+        Op::SyncSlot(1, header(0, 8, "")),
+        Op::SyncSlot(u32::from(slots), header(1, 3, "b")),
+        Op::FlushSlot(0),
+        Op::TruncateSlot(0, 1),
+        Op::TruncateSlot(1, 512),
+    ]
+}
+
 /// The calls of the alphabet, those that change something first; the second part only asks.
-fn alphabet(slots: u8, tables: &Tables) -> (Vec<Op>, Vec<Op>) {
+fn alphabet(slots: u8, slot_calls: bool, tables: &Tables) -> (Vec<Op>, Vec<Op>) {
     let handle = |slot: u32| Handle {
         slot,
         generation: tables
@@ -84,7 +107,7 @@ fn alphabet(slots: u8, tables: &Tables) -> (Vec<Op>, Vec<Op>) {
     };
     let (h0, h1) = (handle(0), handle(1));
     let path = |text: &str| text.as_bytes().to_vec();
-    let changing = vec![
+    let mut changing = vec![
         Op::Mount(slots),
         Op::Mount(slots - 1),
         Op::Adopt(1),
@@ -114,6 +137,9 @@ fn alphabet(slots: u8, tables: &Tables) -> (Vec<Op>, Vec<Op>) {
         Op::Remove(path("b")),
         Op::CreateDirAll(path("d//e")),
     ];
+    if slot_calls {
+        changing.extend(slot_alphabet(slots));
+    }
     let asking = vec![
         Op::OpenRead(path("a")),
         Op::FileLen(h0),
@@ -125,19 +151,20 @@ fn alphabet(slots: u8, tables: &Tables) -> (Vec<Op>, Vec<Op>) {
     (changing, asking)
 }
 
-/// Calls `each` for every script of at most `depth` calls after the mount, faults not yet in the plan.
-pub fn scripts(setup: &Setup, depth: usize, each: &mut dyn FnMut(&Script)) {
+/// Calls `each` for every script of at most `depth` calls after the mount, faults not yet in the plan. With `slot_calls` calls
+/// of slots are among them.
+pub fn scripts(setup: &Setup, depth: usize, slot_calls: bool, each: &mut dyn FnMut(&Script)) {
     let slots = setup.lengths.len() as u8;
     for first in [slots, slots - 1] {
         let mut script = Script {
             setup: setup.clone(),
             ops: vec![Op::Mount(first)],
         };
-        extend(&mut script, depth, each);
+        extend(&mut script, depth, slot_calls, each);
     }
 }
 
-fn extend(script: &mut Script, depth: usize, each: &mut dyn FnMut(&Script)) {
+fn extend(script: &mut Script, depth: usize, slot_calls: bool, each: &mut dyn FnMut(&Script)) {
     if depth == 0 {
         return each(script);
     }
@@ -145,10 +172,11 @@ fn extend(script: &mut Script, depth: usize, each: &mut dyn FnMut(&Script)) {
     for op in &script.ops {
         model.step(op);
     }
-    let (changing, asking) = alphabet(script.setup.lengths.len() as u8, &model.tables());
+    let slots = script.setup.lengths.len() as u8;
+    let (changing, asking) = alphabet(slots, slot_calls, &model.tables());
     for op in changing {
         script.ops.push(op);
-        extend(script, depth - 1, each);
+        extend(script, depth - 1, slot_calls, each);
         script.ops.pop();
     }
     for op in asking {

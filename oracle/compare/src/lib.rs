@@ -8,4 +8,5 @@ pub mod leaves;
 pub mod library;
 pub mod pair;
 pub mod rows;
+pub mod slot_edges;
 pub mod tally;

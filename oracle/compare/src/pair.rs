@@ -32,15 +32,21 @@ const PAST: u64 = u64::MAX - 511;
 fn passes_u64(op: &Op) -> bool {
     match op {
         Op::Read(_, at, _) | Op::Write(_, at, _) | Op::SetLen(_, at) => *at >= PAST,
+        Op::ReadSlot(_, at, _) | Op::WriteSlot(_, at, _) | Op::TruncateSlot(_, at) => *at >= PAST,
         _ => false,
     }
+}
+
+/// Whether a header is free and has a path: the original's row of a free slot has none.
+fn free_with_path(op: &Op) -> bool {
+    matches!(op, Op::SyncSlot(_, header) if header.in_use == 0 && !header.path.is_empty())
 }
 
 /// Whether the original has no such refusal.
 pub fn only_in_01(op: &Op, number: u8) -> bool {
     match number {
         1 | 2 | 3 | 8 | 9 | 12 | 13 => true,
-        4 => matches!(op, Op::CreateDirAll(_)),
+        4 => matches!(op, Op::CreateDirAll(_) | Op::SyncSlot(..)),
         _ => false,
     }
 }
@@ -63,6 +69,9 @@ impl Pair {
         let wanted = self.model.step(op);
         if passes_u64(op) {
             return Ok((Step::Ends("a place past u64"), wanted));
+        }
+        if free_with_path(op) && matches!(wanted.number, 0 | 10 | 11) {
+            return Ok((Step::Ends("a free header with a path"), wanted));
         }
         if several && wanted.number != 0 {
             return Ok((Step::Ends("a failing sync_dir over several files"), wanted));

@@ -7,8 +7,8 @@ use script::{Answer, Op};
 
 use crate::pair::Step;
 
-/// Names of the operations by their codes.
-pub const NAMES: [&str; 17] = [
+/// Names of the operations by their codes; none where there is no such code.
+pub const NAMES: [&str; 27] = [
     "",
     "mount",
     "adopt",
@@ -26,6 +26,16 @@ pub const NAMES: [&str; 17] = [
     "read_dir",
     "exists",
     "metadata",
+    "",
+    "",
+    "",
+    "",
+    "",
+    "read_slot",
+    "write_slot",
+    "sync_slot",
+    "flush_slot",
+    "truncate_slot",
 ];
 
 /// What a run compared.
@@ -35,6 +45,8 @@ pub struct Tally {
     pub scripts: u64,
     /// Scripts of which every operation was inside the domain.
     pub wholly_inside: u64,
+    /// Scripts that hold a call of a slot.
+    pub with_slot_calls: u64,
     /// Scripts that ended early, by the reason.
     pub ended: BTreeMap<&'static str, u64>,
     /// Operations, by code and number, that both machines did.
@@ -47,6 +59,7 @@ pub struct Tally {
 pub struct OneScript<'a> {
     tally: &'a mut Tally,
     whole: bool,
+    slot_calls: bool,
 }
 
 impl Tally {
@@ -55,6 +68,7 @@ impl Tally {
         OneScript {
             tally: self,
             whole: true,
+            slot_calls: false,
         }
     }
 
@@ -67,6 +81,7 @@ impl Tally {
     pub fn add(&mut self, other: &Tally) {
         self.scripts += other.scripts;
         self.wholly_inside += other.wholly_inside;
+        self.with_slot_calls += other.with_slot_calls;
         for (reason, count) in &other.ended {
             *self.ended.entry(reason).or_default() += count;
         }
@@ -85,6 +100,7 @@ impl OneScript<'_> {
     /// Counts an operation.
     pub fn operation(&mut self, op: &Op, answer: &Answer, step: &Step) {
         let key = (op.code(), answer.number);
+        self.slot_calls |= op.is_slot_call();
         match step {
             Step::Inside => *self.tally.inside.entry(key).or_default() += 1,
             Step::Outside => {
@@ -102,6 +118,7 @@ impl OneScript<'_> {
     pub fn done(self) {
         self.tally.scripts += 1;
         self.tally.wholly_inside += u64::from(self.whole);
+        self.tally.with_slot_calls += u64::from(self.slot_calls);
     }
 }
 
@@ -109,9 +126,10 @@ impl fmt::Display for Tally {
     fn fmt(&self, f: &mut fmt::Formatter<'_>) -> fmt::Result {
         writeln!(
             f,
-            "{} scripts, {} of them wholly inside the domain; {} operations, whole tables compared after each",
+            "{} scripts, {} of them wholly inside the domain, {} with calls of slots; {} operations, whole tables compared after each",
             self.scripts,
             self.wholly_inside,
+            self.with_slot_calls,
             self.operations()
         )?;
         for (reason, count) in &self.ended {

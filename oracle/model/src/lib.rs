@@ -10,6 +10,7 @@ pub mod header;
 pub mod path;
 mod pool;
 mod run;
+mod slots;
 pub mod text;
 
 pub use run::{Model, ModelRunner};

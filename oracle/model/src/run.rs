@@ -3,7 +3,9 @@
 use script::{Answer, Handle, Machine, Op, PoolTables, Runner, Script, Setup, Tables};
 
 use crate::device::Device;
+use crate::header::Header;
 use crate::pool::{NO_POOL, Pool};
+use crate::slots;
 
 /// The device, and the pool if the record is one.
 pub struct Model {
@@ -51,16 +53,54 @@ impl Model {
         Ok(Answer::done())
     }
 
+    /// The calls of a slot, which look at no pool.
+    fn slot_call(&mut self, op: &Op) -> Result<Answer, u8> {
+        let device = &mut self.device;
+        let done = |()| Answer::done();
+        match op {
+            Op::ReadSlot(slot, at, length) => {
+                let mut buffer = script::lent(*length);
+                slots::read_slot(device, *slot, *at, &mut buffer)
+                    .map(|count| Answer::filled(count, &buffer))
+            }
+            Op::WriteSlot(slot, at, bytes) => {
+                slots::write_slot(device, *slot, *at, bytes).map(done)
+            }
+            Op::SyncSlot(slot, header) => {
+                let header = Header {
+                    in_use: header.in_use != 0,
+                    path: header.path.clone(),
+                    length: header.length,
+                    generation: header.generation,
+                };
+                slots::sync_slot(device, *slot, &header).map(done)
+            }
+            Op::FlushSlot(slot) => slots::flush_slot(device, *slot).map(done),
+            Op::TruncateSlot(slot, length) => {
+                slots::truncate_slot(device, *slot, *length).map(done)
+            }
+            _ => unreachable!("no call of a slot"),
+        }
+    }
+
     fn call(&mut self, op: &Op) -> Result<Answer, u8> {
         if let Op::Mount(count) = op {
             return self.mount(*count);
+        }
+        if op.is_slot_call() {
+            return self.slot_call(op);
         }
         let pool = self.pool.as_mut().ok_or(NO_POOL)?;
         let device = &mut self.device;
         let both = |handle: &Handle| (handle.slot, handle.generation);
         let done = |()| Answer::done();
         match op {
-            Op::Mount(_) => unreachable!("taken above"),
+            Op::Mount(_)
+            | Op::ReadSlot(..)
+            | Op::WriteSlot(..)
+            | Op::SyncSlot(..)
+            | Op::FlushSlot(_)
+            | Op::TruncateSlot(..) => unreachable!("taken above"),
             Op::Adopt(count) => pool.adopt(device, usize::from(*count)).map(done),
             Op::OpenWrite(keep, path) => {
                 pool.open_write(device, path, *keep != 0)

@@ -48,7 +48,7 @@ impl Answer {
         let results = match op {
             Op::OpenWrite(..) => vec![0; 20],
             Op::OpenRead(_) => vec![0; 12],
-            Op::Read(_, _, length) | Op::ReadDir(length, _) => {
+            Op::Read(_, _, length) | Op::ReadDir(length, _) | Op::ReadSlot(_, _, length) => {
                 let mut results = vec![0; 4];
                 results.extend(lent(*length));
                 results

@@ -59,7 +59,7 @@ pub struct Handle {
     pub generation: u64,
 }
 
-/// One call of the pool.
+/// One call of the pool, or of a slot of its device.
 #[derive(Clone, Debug, PartialEq, Eq)]
 pub enum Op {
     /// Mounts that many slots.
@@ -94,6 +94,29 @@ pub enum Op {
     Exists(Vec<u8>),
     /// Asks for a length and whether it is a directory.
     Metadata(Vec<u8>),
+    /// Reads a slot's file bytes at a place into a buffer of that length.
+    ReadSlot(u32, u64, u16),
+    /// Writes a slot's file bytes at a place.
+    WriteSlot(u32, u64, Vec<u8>),
+    /// Writes a slot's header and flushes it.
+    SyncSlot(u32, SlotHeader),
+    /// Flushes a slot.
+    FlushSlot(u32),
+    /// Cuts a slot's file to a length, or adds zeros up to it.
+    TruncateSlot(u32, u64),
+}
+
+/// What a header is to say.
+#[derive(Clone, Debug, PartialEq, Eq)]
+pub struct SlotHeader {
+    /// 0 is free, anything else in use.
+    pub in_use: u8,
+    /// The file's length.
+    pub length: u64,
+    /// The generation.
+    pub generation: u64,
+    /// The path.
+    pub path: Vec<u8>,
 }
 
 impl Op {
@@ -116,7 +139,17 @@ impl Op {
             Op::ReadDir(..) => 14,
             Op::Exists(_) => 15,
             Op::Metadata(_) => 16,
+            Op::ReadSlot(..) => 22,
+            Op::WriteSlot(..) => 23,
+            Op::SyncSlot(..) => 24,
+            Op::FlushSlot(_) => 25,
+            Op::TruncateSlot(..) => 26,
         }
+    }
+
+    /// Whether it is a call of a slot, which looks at no pool.
+    pub fn is_slot_call(&self) -> bool {
+        (22..=26).contains(&self.code())
     }
 
     /// The paths among its arguments.
@@ -130,6 +163,7 @@ impl Op {
             | Op::ReadDir(_, path)
             | Op::Exists(path)
             | Op::Metadata(path) => vec![path],
+            Op::SyncSlot(_, header) => vec![&header.path],
             Op::Rename(from, to) => vec![from, to],
             _ => Vec::new(),
         }
@@ -172,6 +206,28 @@ impl Op {
             | Op::CreateDirAll(path)
             | Op::Exists(path)
             | Op::Metadata(path) => write_run(out, path),
+            Op::ReadSlot(slot, at, length) => {
+                out.extend(slot.to_le_bytes());
+                out.extend(at.to_le_bytes());
+                out.extend(length.to_le_bytes());
+            }
+            Op::WriteSlot(slot, at, bytes) => {
+                out.extend(slot.to_le_bytes());
+                out.extend(at.to_le_bytes());
+                write_run(out, bytes);
+            }
+            Op::SyncSlot(slot, header) => {
+                out.extend(slot.to_le_bytes());
+                out.push(header.in_use);
+                out.extend(header.length.to_le_bytes());
+                out.extend(header.generation.to_le_bytes());
+                write_run(out, &header.path);
+            }
+            Op::FlushSlot(slot) => out.extend(slot.to_le_bytes()),
+            Op::TruncateSlot(slot, length) => {
+                out.extend(slot.to_le_bytes());
+                out.extend(length.to_le_bytes());
+            }
         }
     }
 }
@@ -269,6 +325,15 @@ impl<'a> Bytes<'a> {
             generation: self.u64()?,
         })
     }
+
+    fn slot_header(&mut self) -> Option<SlotHeader> {
+        Some(SlotHeader {
+            in_use: self.u8()?,
+            length: self.u64()?,
+            generation: self.u64()?,
+            path: self.run()?,
+        })
+    }
 }
 
 fn read_setup(from: &mut Bytes) -> Option<Setup> {
@@ -313,6 +378,11 @@ fn read_op(from: &mut Bytes) -> Option<Op> {
         14 => Op::ReadDir(from.u16()?, from.run()?),
         15 => Op::Exists(from.run()?),
         16 => Op::Metadata(from.run()?),
+        22 => Op::ReadSlot(from.u32()?, from.u64()?, from.u16()?),
+        23 => Op::WriteSlot(from.u32()?, from.u64()?, from.run()?),
+        24 => Op::SyncSlot(from.u32()?, from.slot_header()?),
+        25 => Op::FlushSlot(from.u32()?),
+        26 => Op::TruncateSlot(from.u32()?, from.u64()?),
         _ => return None,
     })
 }

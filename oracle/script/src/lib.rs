@@ -12,7 +12,7 @@ pub mod shrink;
 mod words;
 
 pub use answer::{Answer, PoolTables, Row, Tables, lent};
-pub use format::{Handle, Op, Script, Setup};
+pub use format::{Handle, Op, Script, Setup, SlotHeader};
 
 /// Something that runs a script operation by operation.
 pub trait Machine {

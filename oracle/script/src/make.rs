@@ -1,11 +1,11 @@
 //! Makes scripts at random: small pools, doubled and damaged headers, every spelling trick, all calls, places
-//! around every edge, fault plans, and handles live, stale and invented.
+//! around every edge, fault plans, and handles live, stale and invented; if wanted, calls of slots in between.
 //!
 //! A maker goes along with a machine: it draws one operation, is told the answer, and draws the next, so that
 //! handles are mostly of use.
 
 use crate::answer::Answer;
-use crate::format::{Handle, Op, Script, Setup};
+use crate::format::{Handle, Op, Script, Setup, SlotHeader};
 use crate::random::Rng;
 
 /// How far a script may go.
@@ -84,6 +84,18 @@ pub struct Maker {
     held: Option<usize>,
     left: usize,
     first: bool,
+    slot_calls: SlotCalls,
+}
+
+/// Whether a script has calls of slots between the pool's.
+#[derive(Clone, Copy, Debug, PartialEq, Eq)]
+enum SlotCalls {
+    /// None are drawn.
+    Without,
+    /// There has to be one, and none was drawn yet.
+    Wanted,
+    /// Some were drawn.
+    Drawn,
 }
 
 const NAMES: &[&str] = &[
@@ -151,6 +163,16 @@ impl Maker {
             held: None,
             left,
             first: true,
+            slot_calls: SlotCalls::Without,
+        }
+    }
+
+    /// A maker that draws calls of slots between the pool's, at least one a script. The device and the paths are
+    /// those of the script of the same number without them.
+    pub fn with_slot_calls(flavour: Flavour, seed: u64, script: u64) -> Maker {
+        Maker {
+            slot_calls: SlotCalls::Wanted,
+            ..Maker::new(flavour, seed, script)
         }
     }
 
@@ -161,6 +183,15 @@ impl Maker {
 
     /// The next operation, if there is another.
     pub fn draw(&mut self) -> Option<Op> {
+        let due = match self.slot_calls {
+            SlotCalls::Without => false,
+            SlotCalls::Wanted => self.left == 0 || self.rng.one_in(3),
+            SlotCalls::Drawn => self.rng.one_in(3),
+        };
+        if due {
+            self.slot_calls = SlotCalls::Drawn;
+            return Some(self.slot_call());
+        }
         self.left = self.left.checked_sub(1)?;
         let wild = self.flavour == Flavour::Wild;
         let mount_now = std::mem::take(&mut self.first) || self.held.is_none();
@@ -218,6 +249,13 @@ impl Maker {
                 self.opened.push(path.clone());
             }
             (Op::Rename(_, to), 0) => self.opened.push(to.clone()),
+            // The next mount makes the handle a live one.
+            (Op::SyncSlot(slot, header), 0) if header.in_use != 0 && self.rng.one_in(2) => {
+                self.handles.push(Handle {
+                    slot: *slot,
+                    generation: header.generation,
+                });
+            }
             (Op::Mount(count), 0) => self.held = Some(usize::from(*count)),
             (Op::Mount(_), number) => {
                 self.held = None;
@@ -281,6 +319,59 @@ impl Maker {
             }
             path
         })
+    }
+
+    fn slot_call(&mut self) -> Op {
+        let slot = self.slot();
+        match self.rng.below(12) {
+            0..=2 => {
+                let length = self.buffer_length();
+                Op::ReadSlot(slot, self.place(), length)
+            }
+            3..=5 => {
+                let length = self.data_length();
+                let bytes = self.rng.bytes(length);
+                Op::WriteSlot(slot, self.place(), bytes)
+            }
+            6..=8 => Op::SyncSlot(slot, self.slot_header()),
+            9 => Op::FlushSlot(slot),
+            _ => Op::TruncateSlot(slot, self.place()),
+        }
+    }
+
+    /// A slot's number, mostly one that the device has.
+    fn slot(&mut self) -> u32 {
+        let slots = self.setup.lengths.len();
+        match self.rng.below(20) {
+            0 => u32::MAX,
+            1 => slots as u32,
+            2 => (slots + self.rng.below(3)) as u32,
+            _ => self.rng.below(slots.max(1)) as u32,
+        }
+    }
+
+    /// What a header is to say; inside the domain text of at most 480 bytes, and none for a free one.
+    fn slot_header(&mut self) -> SlotHeader {
+        let wild = self.flavour == Flavour::Wild;
+        let in_use = self.rng.pick(&[0, 1, 1, 1, 2, 255]);
+        let generation = draw_generation(&mut self.rng, wild);
+        let length = draw_length(&mut self.rng, wild);
+        let mut path = self.path();
+        if self.rng.one_in(12) {
+            path.clear();
+        }
+        if !wild && path.len() > 480 {
+            path = b"d".to_vec();
+        }
+        if in_use == 0 && !(wild && self.rng.one_in(2)) {
+            path.clear();
+        }
+        SlotHeader {
+            in_use,
+            length,
+            generation,
+            path,
+        }
     }
 
     /// One of the script's paths, in some spelling.
@@ -590,24 +681,8 @@ fn draw_block(rng: &mut Rng, flavour: Flavour, paths: &[Vec<u8>]) -> Block {
     if path.len() > 480 {
         path.truncate(rng.pick(&[479, 480]));
     }
-    let generation = match rng.below(16) {
-        0..=5 => rng.below(4) as u64,
-        6..=11 => rng.below(12) as u64,
-        12 => rng.pick(&[1 << 31, 1 << 32, 1 << 40]),
-        13 => (1 << 62) - 1 - rng.below(3) as u64,
-        14 if wild => (1 << 63) - 3 + rng.below(5) as u64,
-        15 if wild && rng.one_in(3) => u64::MAX - rng.below(2) as u64,
-        _ => 5,
-    };
-    let length = match rng.below(12) {
-        0..=2 => 0,
-        3..=6 => rng.below(20) as u64,
-        7 => 512,
-        8 => rng.below(2000) as u64,
-        9 => rng.pick(&[1 << 31, (1 << 32) - 1]),
-        10 if wild => rng.pick(&[1 << 32, 1 << 63, u64::MAX - 511, u64::MAX]),
-        _ => rng.below(600) as u64,
-    };
+    let generation = draw_generation(rng, wild);
+    let length = draw_length(rng, wild);
     let mut block = Block::claim(&path, generation, length);
     match rng.below(24) {
         0..=2 => block.flags = 0,
@@ -624,6 +699,30 @@ fn draw_block(rng: &mut Rng, flavour: Flavour, paths: &[Vec<u8>]) -> Block {
         _ => (),
     }
     block
+}
+
+fn draw_generation(rng: &mut Rng, wild: bool) -> u64 {
+    match rng.below(16) {
+        0..=5 => rng.below(4) as u64,
+        6..=11 => rng.below(12) as u64,
+        12 => rng.pick(&[1 << 31, 1 << 32, 1 << 40]),
+        13 => (1 << 62) - 1 - rng.below(3) as u64,
+        14 if wild => (1 << 63) - 3 + rng.below(5) as u64,
+        15 if wild && rng.one_in(3) => u64::MAX - rng.below(2) as u64,
+        _ => 5,
+    }
+}
+
+fn draw_length(rng: &mut Rng, wild: bool) -> u64 {
+    match rng.below(12) {
+        0..=2 => 0,
+        3..=6 => rng.below(20) as u64,
+        7 => 512,
+        8 => rng.below(2000) as u64,
+        9 => rng.pick(&[1 << 31, (1 << 32) - 1]),
+        10 if wild => rng.pick(&[1 << 32, 1 << 63, u64::MAX - 511, u64::MAX]),
+        _ => rng.below(600) as u64,
+    }
 }
 
 /// A whole script, made with the machine that `start` gives going along.

@@ -1,6 +1,6 @@
 //! Makes a script that shows something smaller, as long as it still shows it.
 
-use crate::format::{Op, Script};
+use crate::format::{Op, Script, SlotHeader};
 
 /// The smallest script found that `shows` still holds of. `script` must show it.
 pub fn shrink(script: &Script, mut shows: impl FnMut(&Script) -> bool) -> Script {
@@ -234,5 +234,101 @@ fn simpler(op: &Op) -> Vec<Op> {
         }
         Op::Exists(path) => shorter(path).into_iter().map(Op::Exists).collect(),
         Op::Metadata(path) => shorter(path).into_iter().map(Op::Metadata).collect(),
+        _ => simpler_slot_call(op),
     }
+}
+
+/// The same for the calls of a slot.
+fn simpler_slot_call(op: &Op) -> Vec<Op> {
+    let slots = |slot: &u32| -> Vec<u32> {
+        let found = smaller(u64::from(*slot));
+        found.into_iter().map(|slot| slot as u32).collect()
+    };
+    let mut found = Vec::new();
+    match op {
+        Op::ReadSlot(slot, at, length) => {
+            found.extend(
+                slots(slot)
+                    .into_iter()
+                    .map(|slot| Op::ReadSlot(slot, *at, *length)),
+            );
+            found.extend(
+                smaller(*at)
+                    .into_iter()
+                    .map(|at| Op::ReadSlot(*slot, at, *length)),
+            );
+            let lengths = smaller(u64::from(*length)).into_iter();
+            found.extend(lengths.map(|length| Op::ReadSlot(*slot, *at, length as u16)));
+        }
+        Op::WriteSlot(slot, at, bytes) => {
+            let with = |slot, at, end: usize| Op::WriteSlot(slot, at, bytes[..end].to_vec());
+            found.extend(
+                slots(slot)
+                    .into_iter()
+                    .map(|slot| with(slot, *at, bytes.len())),
+            );
+            found.extend(
+                smaller(*at)
+                    .into_iter()
+                    .map(|at| with(*slot, at, bytes.len())),
+            );
+            let lengths = smaller(bytes.len() as u64).into_iter();
+            found.extend(lengths.map(|length| with(*slot, *at, length as usize)));
+        }
+        Op::SyncSlot(slot, header) => {
+            found.extend(
+                slots(slot)
+                    .into_iter()
+                    .map(|slot| Op::SyncSlot(slot, header.clone())),
+            );
+            let simpler = simpler_header(header).into_iter();
+            found.extend(simpler.map(|header| Op::SyncSlot(*slot, header)));
+        }
+        Op::FlushSlot(slot) => found.extend(slots(slot).into_iter().map(Op::FlushSlot)),
+        Op::TruncateSlot(slot, length) => {
+            found.extend(
+                slots(slot)
+                    .into_iter()
+                    .map(|slot| Op::TruncateSlot(slot, *length)),
+            );
+            found.extend(
+                smaller(*length)
+                    .into_iter()
+                    .map(|length| Op::TruncateSlot(*slot, length)),
+            );
+        }
+        _ => (),
+    }
+    found
+}
+
+/// Headers with one thing simpler.
+fn simpler_header(header: &SlotHeader) -> Vec<SlotHeader> {
+    let mut found = Vec::new();
+    for in_use in smaller(u64::from(header.in_use)) {
+        let in_use = in_use as u8;
+        found.push(SlotHeader {
+            in_use,
+            ..header.clone()
+        });
+    }
+    for length in smaller(header.length) {
+        found.push(SlotHeader {
+            length,
+            ..header.clone()
+        });
+    }
+    for generation in smaller(header.generation) {
+        found.push(SlotHeader {
+            generation,
+            ..header.clone()
+        });
+    }
+    for path in shorter(&header.path) {
+        found.push(SlotHeader {
+            path,
+            ..header.clone()
+        });
+    }
+    found
 }

@@ -2,7 +2,7 @@
 
 use std::fmt;
 
-use crate::format::{Handle, Op, Script};
+use crate::format::{Handle, Op, Script, SlotHeader};
 
 fn path(bytes: &[u8]) -> String {
     if bytes.len() > 40 {
@@ -41,6 +41,28 @@ impl fmt::Display for Op {
             Op::ReadDir(length, p) => write!(f, "read_dir {} into {length} bytes", path(p)),
             Op::Exists(p) => write!(f, "exists {}", path(p)),
             Op::Metadata(p) => write!(f, "metadata {}", path(p)),
+            Op::ReadSlot(slot, at, length) => {
+                write!(f, "read_slot {slot} at {at}, {length} bytes")
+            }
+            Op::WriteSlot(slot, at, bytes) => {
+                write!(f, "write_slot {slot} at {at}, {} bytes", bytes.len())
+            }
+            Op::SyncSlot(slot, header) => {
+                let state = if header.in_use == 0 { "free" } else { "in use" };
+                let SlotHeader {
+                    length,
+                    generation,
+                    path: p,
+                    ..
+                } = header;
+                write!(
+                    f,
+                    "sync_slot {slot} {state}, length {length}, generation {generation}, {}",
+                    path(p)
+                )
+            }
+            Op::FlushSlot(slot) => write!(f, "flush_slot {slot}"),
+            Op::TruncateSlot(slot, length) => write!(f, "truncate_slot {slot} to {length}"),
         }
     }
 }

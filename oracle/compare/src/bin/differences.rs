@@ -14,7 +14,7 @@ use compare::tally::NAMES;
 use model::Model;
 use original::{Decoded, Original};
 use script::make::{Block, Flavour, Maker, whole};
-use script::{Handle, Machine, Op, Script, Setup, shrink};
+use script::{Handle, Machine, Op, Script, Setup, SlotHeader, shrink};
 
 const HALF: u64 = 1 << 63;
 
@@ -93,14 +93,52 @@ fn scripts() -> Vec<(&'static str, Script)> {
     let rows = |dir_rows, setup: Setup| Setup { dir_rows, ..setup };
     let slot_rows = |slot_rows, setup: Setup| Setup { slot_rows, ..setup };
     let far = u64::MAX - 511;
+    let sync = |slot, in_use, path: Vec<u8>| {
+        let header = SlotHeader {
+            in_use,
+            length: 0,
+            generation: 0,
+            path,
+        };
+        vec![Op::SyncSlot(slot, header)]
+    };
+    let odd = Setup {
+        slot_size: 513,
+        ..blank(1)
+    };
     let cases: Vec<(&'static str, Setup, Vec<Op>)> = vec![
+        ("2, slot size", odd.clone(), vec![Op::Mount(1)]),
+        ("2, read_slot", odd.clone(), vec![Op::ReadSlot(0, 0, 0)]),
         (
-            "2, slot size",
-            Setup {
-                slot_size: 513,
-                ..blank(1)
-            },
-            vec![Op::Mount(1)],
+            "2, write_slot",
+            odd.clone(),
+            vec![Op::WriteSlot(0, 0, vec![])],
+        ),
+        ("2, sync_slot", odd.clone(), sync(0, 0, vec![])),
+        ("2, flush_slot", odd.clone(), vec![Op::FlushSlot(0)]),
+        ("2, truncate_slot", odd, vec![Op::TruncateSlot(0, 0)]),
+        ("3, sync_slot", blank(1), sync(0, 1, vec![0xFF])),
+        ("3 before 6, sync_slot", blank(1), sync(1, 1, vec![0xFF])),
+        ("4, sync_slot", blank(1), sync(0, 1, vec![b'y'; 481])),
+        (
+            "a free header with a path",
+            blank(1),
+            sync(0, 0, vec![b'a']),
+        ),
+        (
+            "place past u64, read_slot",
+            claims(&[("", 1, 0)], 1),
+            vec![Op::ReadSlot(0, far, 4)],
+        ),
+        (
+            "place past u64, write_slot",
+            blank(1),
+            vec![Op::WriteSlot(0, far, vec![])],
+        ),
+        (
+            "place past u64, truncate_slot",
+            blank(1),
+            vec![Op::TruncateSlot(0, far)],
         ),
         ("2, slot rows", slot_rows(65, blank(1)), vec![Op::Mount(1)]),
         ("2, directory rows", rows(257, blank(1)), vec![Op::Mount(1)]),
@@ -304,7 +342,7 @@ fn spelling_listed() {
 fn search(count: u64, seed: u64) {
     let mut classes: BTreeMap<(u8, u8), (u64, Script, String)> = BTreeMap::new();
     for number in 0..count {
-        let mut maker = Maker::new(Flavour::Wild, seed, number);
+        let mut maker = Maker::with_slot_calls(Flavour::Wild, seed, number);
         let script = whole(&mut maker, Model::start);
         if !shaped(&script.setup) {
             continue;

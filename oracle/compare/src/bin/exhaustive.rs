@@ -1,8 +1,8 @@
 //! Compares the original and the model on all short scripts with every plan of at most two faults, and the library
 //! with the model if it is linked.
 //!
-//! `exhaustive [--depth N] [--faults N] [--device N]`: calls after the mount (3), faults in a plan (2), one device
-//! instead of all.
+//! `exhaustive [--depth N] [--faults N] [--device N] [--slots]`: calls after the mount (3), faults in a plan (2), one device
+//! instead of all; with calls of slots too.
 
 use std::time::Instant;
 
@@ -15,7 +15,7 @@ use model::{Model, ModelRunner};
 use script::{Machine, Script, shrink};
 
 fn main() {
-    let arguments = Arguments::read(&["depth", "faults", "device"], &[]);
+    let arguments = Arguments::read(&["depth", "faults", "device"], &["slots"]);
     let depth = arguments.number("depth", 3) as usize;
     let faults = arguments.number("faults", 2) as usize;
     let only = arguments.number("device", u64::MAX);
@@ -31,7 +31,7 @@ fn main() {
         let mut tally = Tally::default();
         let mut library = Library::find();
         let mut bare = 0u64;
-        exhaust::scripts(&setup, depth, &mut |script| {
+        exhaust::scripts(&setup, depth, arguments.flag("slots"), &mut |script| {
             bare += 1;
             exhaust::plans(&mut script.clone(), faults, &mut |script| {
                 run(script, &mut tally, &mut library)

@@ -78,7 +78,10 @@ const MISTAKES: &[Mistake] = &[
         "half of the bytes, then what fits",
         "device.rs",
         "        let mut stored = bytes.len().min(self.size - start);\n        if fault == 2 {\n            stored /= 2;\n        }",
-        "        let mut stored = bytes.len();\n        if fault == 2 {\n            stored /= 2;\n        }\n        stored = stored.min(self.size - start);",
+        concat!(
+            "        let mut stored = bytes.len();\n        if fault == 2 {\n            stored /= 2;\n",
+            "        }\n        stored = stored.min(self.size - start);",
+        ),
     ),
     (
         "a gap keeps its old bytes",
@@ -120,7 +123,10 @@ const MISTAKES: &[Mistake] = &[
         "a release keeps the old generation",
         "pool.rs",
         "        let generation = self.spend();\n        self.rows[slot] = Row {\n            generation,\n            ..Row::default()",
-        "        self.spend();\n        let generation = self.rows[slot].generation;\n        self.rows[slot] = Row {\n            generation,\n            ..Row::default()",
+        concat!(
+            "        self.spend();\n        let generation = self.rows[slot].generation;\n",
+            "        self.rows[slot] = Row {\n            generation,\n            ..Row::default()",
+        ),
     ),
     (
         "losers are released in the order of slots",
@@ -132,13 +138,97 @@ const MISTAKES: &[Mistake] = &[
         "a header of 511 bytes is decoded",
         "header.rs",
         "let block: &[u8; LEN] = read.first_chunk()?;",
-        "let mut whole = read.to_vec();\n    if whole.len() == 511 {\n        whole.push(0);\n    }\n    let block: &[u8; LEN] = whole.first_chunk()?;",
+        concat!(
+            "let mut whole = read.to_vec();\n    if whole.len() == 511 {\n        whole.push(0);\n    }\n",
+            "    let block: &[u8; LEN] = whole.first_chunk()?;",
+        ),
     ),
     (
         "other flag bits are minded",
         "header.rs",
         "in_use: block[4] % 2 == 1,",
         "in_use: block[4] == 1,",
+    ),
+    (
+        "slot calls need a pool",
+        "run.rs",
+        "            return self.slot_call(op);",
+        "            self.pool.as_ref().ok_or(NO_POOL)?;\n            return self.slot_call(op);",
+    ),
+    (
+        "the first slot that is not there is a failed device call",
+        "slots.rs",
+        "    } else {\n        Err(STALE)",
+        "    } else {\n        Err(if slot == device.lengths.len() { 10 } else { STALE })",
+    ),
+    (
+        "6 before 4",
+        "slots.rs",
+        "    if header.path.len() > MAX_PATH {",
+        "    if slot as usize >= device.lengths.len() {\n        return Err(STALE);\n    }\n    if header.path.len() > MAX_PATH {",
+    ),
+    (
+        "a header cut short is flushed",
+        "device.rs",
+        "        self.write_from(slot, 0, block)?;\n        self.flush()",
+        concat!(
+            "        let written = self.write_from(slot, 0, block);\n        if written != Err(FAILED) {\n",
+            "            self.flush()?;\n        }\n        written",
+        ),
+    ),
+    (
+        "sync_slot does not flush",
+        "slots.rs",
+        "    device.put_header(slot, &header::encode(header))",
+        concat!(
+            "    let place = device.place;\n    let said = device.put_header(slot, &header::encode(header));\n",
+            "    device.place = device.place.min(place + 1);\n    said",
+        ),
+    ),
+    (
+        "a slot is read at its place in the slot",
+        "slots.rs",
+        "    device.read(slot, at, buffer)",
+        "    device.read(slot, at.wrapping_sub(512), buffer)",
+    ),
+    (
+        "a read of no bytes is no device call",
+        "slots.rs",
+        "    let slot = within(device, slot)?;\n    device.read(",
+        "    let slot = within(device, slot)?;\n    if buffer.is_empty() {\n        return Ok(0);\n    }\n    device.read(",
+    ),
+    (
+        "a slot write that does not fit stores nothing",
+        "slots.rs",
+        "    device.write(slot, at, bytes)",
+        concat!(
+            "    if at < 512 && at + bytes.len() as u64 > (device.size - 512) as u64 {\n        return Err(11);\n",
+            "    }\n    device.write(slot, at, bytes)",
+        ),
+    ),
+    (
+        "only 1 means in use",
+        "run.rs",
+        "                    in_use: header.in_use != 0,",
+        "                    in_use: header.in_use == 1,",
+    ),
+    (
+        "a header with an empty path is free",
+        "run.rs",
+        "                    in_use: header.in_use != 0,",
+        "                    in_use: header.in_use != 0 && !header.path.is_empty(),",
+    ),
+    (
+        "truncate_slot counts from the slot's front",
+        "slots.rs",
+        "    device.truncate(slot, length)",
+        "    device.truncate(slot, length.saturating_sub(512))",
+    ),
+    (
+        "a flush of a slot needs no plan byte",
+        "slots.rs",
+        "    device.flush()",
+        "    let place = device.place;\n    let said = device.flush();\n    device.place = place;\n    said",
     ),
     (
         "a failed mount keeps the old pool",

@@ -1,9 +1,10 @@
 //! Compares the original and the model on scripts made at random, and both with the library if it is linked.
 //!
-//! `random [--flavour inside|wild] [--seed N] [--count N] [--from N] [--threads N] [--optional]`. With `inside` the
-//! count is of scripts that lie wholly inside 01's domain; with `wild` of all scripts. A difference is shrunk, printed
-//! in words and in hexadecimal, and ends the run with 1. Where there is nothing to compare it ends with 1, or with 0 if
-//! `--optional` is given.
+//! `random [--flavour inside|wild] [--calls all|pool] [--seed N] [--count N] [--from N] [--threads N] [--optional]`. With
+//! `all` calls of slots are drawn between the pool's calls, at least one a script. With `inside` the count is of scripts
+//! that lie wholly inside 01's domain; with `wild` of all scripts. A difference is shrunk, printed in words and in
+//! hexadecimal, and ends the run with 1. Where there is nothing to compare it ends with 1, or with 0 if `--optional` is
+//! given.
 
 use std::sync::atomic::{AtomicU64, Ordering};
 use std::time::Instant;
@@ -21,13 +22,14 @@ use script::{Machine, Runner, Script};
 #[derive(Clone, Copy)]
 struct Task {
     flavour: Flavour,
+    slot_calls: bool,
     seed: u64,
     count: u64,
 }
 
 fn main() {
     let arguments = Arguments::read(
-        &["flavour", "seed", "count", "from", "threads"],
+        &["flavour", "calls", "seed", "count", "from", "threads"],
         &["optional"],
     );
     let flavour = match arguments.word("flavour", "inside").as_str() {
@@ -35,8 +37,14 @@ fn main() {
         "wild" => Flavour::Wild,
         _ => stop("--flavour is inside or wild"),
     };
+    let slot_calls = match arguments.word("calls", "all").as_str() {
+        "all" => true,
+        "pool" => false,
+        _ => stop("--calls is all or pool"),
+    };
     let task = Task {
         flavour,
+        slot_calls,
         seed: arguments.number("seed", 1),
         count: arguments.number("count", 100_000),
     };
@@ -52,8 +60,15 @@ fn main() {
         (true, true) => (),
     }
     println!(
-        "flavour {:?}, seed {}, count {}, {threads} thread(s)",
-        task.flavour, task.seed, task.count
+        "flavour {:?}, {}, seed {}, count {}, {threads} thread(s)",
+        task.flavour,
+        if slot_calls {
+            "all calls"
+        } else {
+            "the pool's calls"
+        },
+        task.seed,
+        task.count
     );
     let began = Instant::now();
     let next = AtomicU64::new(arguments.number("from", 0));
@@ -82,7 +97,11 @@ fn work(task: Task, next: &AtomicU64, counted: &AtomicU64) -> Tally {
     while counted.load(Ordering::Relaxed) < task.count {
         let number = next.fetch_add(1, Ordering::Relaxed);
         let inside_before = tally.wholly_inside;
-        let mut maker = Maker::new(task.flavour, task.seed, number);
+        let mut maker = if task.slot_calls {
+            Maker::with_slot_calls(task.flavour, task.seed, number)
+        } else {
+            Maker::new(task.flavour, task.seed, number)
+        };
         let found = match go_along(&mut maker, &mut tally) {
             Ok(found) => found,
             Err(differs) => report(&differs.0, number, &differs.1),

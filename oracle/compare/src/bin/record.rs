@@ -1,21 +1,23 @@
 //! Records scripts with the original's answers and tables, or checks a record.
 //!
-//! `record [--seed N] [--draw N] FOLDER` writes `FOLDER/original.bin` and `FOLDER/model.bin`; `record --check FOLDER` runs
-//! every recorded script on the model, the original and the library, as far as they are there, and compares the whole output.
+//! `record [--seed N] [--draw N] FOLDER` writes the four files below; `record --check FOLDER` runs every recorded script on
+//! the model, the original and the library, as far as they are there, and compares the whole output.
 //!
 //! A file is a run of entries: u32 script length, script, u32 output length, output, little-endian. `original.bin` holds
 //! scripts on which the original and the model agreed at every step; where only 01 refuses, the number is 01's. `model.bin`
-//! holds those that the original can't be asked: scripts that aren't whole, and places past u64.
+//! holds those that the original can't be asked: scripts that aren't whole, and places past u64. `slot_calls.bin` and
+//! `slot_calls_model.bin` are the same for scripts with calls of slots.
 
 use std::collections::BTreeSet;
 use std::fs;
+use std::ops::RangeInclusive;
 use std::path::Path;
 
 use compare::arguments::{Arguments, stop};
-use compare::edges;
 use compare::library::{self, Library};
 use compare::pair::{OriginalRunner, Pair, Step};
 use compare::tally::NAMES;
+use compare::{edges, slot_edges};
 use model::{Model, ModelRunner};
 use script::make::{Flavour, Maker, whole};
 use script::{Op, Runner, Script, Tables, shrink};
@@ -32,13 +34,48 @@ fn main() {
     if !original::PRESENT {
         stop("no regolith checkout: there is nothing to record");
     }
-    let (asked, not_asked) = chosen(
-        arguments.number("seed", 1),
-        arguments.number("draw", 20_000),
-    );
     fs::create_dir_all(folder).unwrap_or_else(|why| stop(&format!("{}: {why}", folder.display())));
-    save(&folder.join("original.bin"), &asked);
-    save(&folder.join("model.bin"), &not_asked);
+    let seed = arguments.number("seed", 1);
+    let draw = arguments.number("draw", 20_000);
+    for (kind, files) in kinds().iter().zip(FILES) {
+        let (asked, not_asked) = chosen(kind, seed, draw);
+        save(&folder.join(files[0]), &asked);
+        save(&folder.join(files[1]), &not_asked);
+    }
+}
+
+/// What is recorded of the pool's calls and of the slots': what the original answers, and what the model alone does.
+const FILES: [[&str; 2]; 2] = [
+    ["original.bin", "model.bin"],
+    ["slot_calls.bin", "slot_calls_model.bin"],
+];
+
+/// One kind of scripts to record.
+struct Kind {
+    edges: Vec<(&'static str, Script)>,
+    maker: fn(Flavour, u64, u64) -> Maker,
+    /// The calls of which something new is looked for.
+    codes: RangeInclusive<u8>,
+    /// Scripts that aren't whole or end early.
+    not_whole: Vec<Vec<u8>>,
+}
+
+/// In the order of their files.
+fn kinds() -> [Kind; 2] {
+    [
+        Kind {
+            edges: edges::all(),
+            maker: Maker::new,
+            codes: 1..=16,
+            not_whole: not_whole(),
+        },
+        Kind {
+            edges: slot_edges::all(),
+            maker: Maker::with_slot_calls,
+            codes: 22..=26,
+            not_whole: slot_edges::ending_early(),
+        },
+    ]
 }
 
 /// A script's bytes and the output's.
@@ -62,7 +99,8 @@ fn save(file: &Path, entries: &[Entry]) {
 /// Scripts drawn at random are recorded only over devices this small: the whole device is part of an output.
 const SLOTS: usize = 3;
 
-/// What an operation does, as far as it tells one case from another: call, number, device calls, and what changed.
+/// What an operation does, as far as it tells one case from another: call, number, device calls, and what changed: of the
+/// pool's calls rows, queue and directories, of a slot's call the device's bytes and lengths, and whether there is a pool.
 type Feature = (u8, u8, u32, [bool; 3]);
 
 /// The run of a script on both machines.
@@ -114,6 +152,14 @@ fn of_model(bytes: &[u8]) -> Vec<u8> {
 
 fn feature(op: &Op, number: u8, before: &Tables, after: &Tables) -> Feature {
     let calls = after.place.wrapping_sub(before.place).min(6);
+    if op.is_slot_call() {
+        let changed = [
+            before.device != after.device,
+            before.lengths != after.lengths,
+            after.pool.is_some(),
+        ];
+        return (op.code(), number, calls, changed);
+    }
     let (Some(old), Some(new)) = (&before.pool, &after.pool) else {
         return (op.code(), number, calls.min(3), [false; 3]);
     };
@@ -126,12 +172,12 @@ fn feature(op: &Op, number: u8, before: &Tables, after: &Tables) -> Feature {
 }
 
 /// The edges, then scripts drawn at random as long as they show something new, shrunk to that.
-fn chosen(seed: u64, draw: u64) -> (Vec<Entry>, Vec<Entry>) {
+fn chosen(kind: &Kind, seed: u64, draw: u64) -> (Vec<Entry>, Vec<Entry>) {
     let mut asked = Vec::new();
     let mut not_asked = Vec::new();
     let mut known = BTreeSet::new();
-    for (_, script) in edges::all() {
-        let found = run(&script);
+    for (_, script) in &kind.edges {
+        let found = run(script);
         let list = if found.asked {
             &mut asked
         } else {
@@ -151,7 +197,7 @@ fn chosen(seed: u64, draw: u64) -> (Vec<Entry>, Vec<Entry>) {
         } else {
             Flavour::Wild
         };
-        let mut script = whole(&mut Maker::new(flavour, seed, number), Model::start);
+        let mut script = whole(&mut (kind.maker)(flavour, seed, number), Model::start);
         if script.setup.lengths.len() > SLOTS {
             continue;
         }
@@ -159,7 +205,8 @@ fn chosen(seed: u64, draw: u64) -> (Vec<Entry>, Vec<Entry>) {
         if !found.asked {
             continue;
         }
-        let Some(end) = found.features.iter().position(|seen| !known.contains(seen)) else {
+        let new = |seen: &Feature| kind.codes.contains(&seen.0) && !known.contains(seen);
+        let Some(end) = found.features.iter().position(new) else {
             continue;
         };
         let new = found.features[end];
@@ -174,16 +221,16 @@ fn chosen(seed: u64, draw: u64) -> (Vec<Entry>, Vec<Entry>) {
     }
     println!("{} of them can't be asked of the original", not_asked.len());
     println!("with scripts drawn at random, {} cases", known.len());
-    covered(&known);
-    not_asked.extend(not_whole().into_iter().map(|bytes| {
-        let output = of_model(&bytes);
-        (bytes, output)
+    covered(&kind.codes, &known);
+    not_asked.extend(kind.not_whole.iter().map(|bytes| {
+        let output = of_model(bytes);
+        (bytes.clone(), output)
     }));
     (asked, not_asked)
 }
 
 /// The numbers that each call can give in a script, by the calls' codes.
-const NUMBERS: [&[u8]; 17] = [
+const NUMBERS: [&[u8]; 27] = [
     &[],
     &[0, 2, 8, 9, 10, 12],
     &[0, 1, 8, 9, 10, 12],
@@ -201,19 +248,30 @@ const NUMBERS: [&[u8]; 17] = [
     &[0, 1, 3, 5, 13],
     &[0, 1, 3],
     &[0, 1, 3, 5],
+    &[],
+    &[],
+    &[],
+    &[],
+    &[],
+    &[0, 2, 6, 10],
+    &[0, 2, 6, 10, 11],
+    &[0, 2, 3, 4, 6, 10, 11],
+    &[0, 2, 6, 10],
+    &[0, 2, 6, 10],
 ];
 
 /// Says which numbers of each call are recorded, and stops if one that can be given is missing.
-fn covered(known: &BTreeSet<Feature>) {
-    for (code, wanted) in NUMBERS.iter().enumerate().skip(1) {
+fn covered(codes: &RangeInclusive<u8>, known: &BTreeSet<Feature>) {
+    for code in codes.clone() {
+        let (name, wanted) = (NAMES[usize::from(code)], NUMBERS[usize::from(code)]);
         let seen: BTreeSet<u8> = known
             .iter()
-            .filter(|feature| usize::from(feature.0) == code)
+            .filter(|feature| feature.0 == code)
             .map(|feature| feature.1)
             .collect();
-        println!("  {:<15}{seen:?}", NAMES[code]);
+        println!("  {name:<15}{seen:?}");
         if !seen.iter().eq(wanted.iter()) {
-            stop(&format!("{} should have {wanted:?}", NAMES[code]));
+            stop(&format!("{name} should have {wanted:?}"));
         }
     }
 }
@@ -269,7 +327,11 @@ fn check(folder: &Path) {
         println!("original skipped: no regolith checkout when this was built");
     }
     let mut wrong = 0;
-    for name in ["original.bin", "model.bin"] {
+    for (name, asked) in FILES
+        .as_flattened()
+        .iter()
+        .zip([true, false].iter().cycle())
+    {
         let file = folder.join(name);
         let bytes =
             fs::read(&file).unwrap_or_else(|why| stop(&format!("{}: {why}", file.display())));
@@ -279,7 +341,7 @@ fn check(folder: &Path) {
             let mut model = ModelRunner;
             let mut original = OriginalRunner;
             let mut runners: Vec<&mut dyn Runner> = vec![&mut model];
-            if original::PRESENT && name == "original.bin" {
+            if original::PRESENT && *asked {
                 runners.push(&mut original);
             }
             if let Some(library) = &mut library {

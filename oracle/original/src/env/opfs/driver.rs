@@ -17,7 +17,7 @@ use script::{Answer, Op, PoolTables, Row, Setup, Tables};
 use wasm_bindgen::JsValue;
 
 use super::pool::SahPool;
-use super::sah::{self, SlotHeader};
+use super::sah::{self, MountId, Slot, SlotHeader};
 use crate::Decoded;
 use crate::device::{Device, Shared};
 
@@ -26,6 +26,16 @@ pub struct Original {
     device: Shared,
     directory: JsValue,
     pool: Option<SahPool>,
+    /// All slots of the device, registered for the slot calls when the first of them comes.
+    slots: Option<MountId>,
+}
+
+impl Drop for Original {
+    fn drop(&mut self) {
+        if let Some(slots) = self.slots {
+            sah::release_mount(slots);
+        }
+    }
 }
 
 /// A path of the host's type with exactly these bytes.
@@ -66,6 +76,15 @@ fn number(error: &io::Error) -> u8 {
     }
 }
 
+/// The same for a call of a slot, which can find that the slot is not there.
+fn slot_number(error: &io::Error) -> u8 {
+    let absent = error.to_string().starts_with("OPFS slot is not open");
+    match error.kind() {
+        io::ErrorKind::NotFound if absent => 6,
+        _ => number(error),
+    }
+}
+
 impl Original {
     /// The device that the setup says, with no pool mounted.
     pub fn start(setup: &Setup) -> Option<Original> {
@@ -74,6 +93,7 @@ impl Original {
             directory: super::js::directory(&device),
             device,
             pool: None,
+            slots: None,
         })
     }
 
@@ -124,15 +144,69 @@ impl Original {
         Ok(Answer::done())
     }
 
+    /// The registered slots of the whole device. Opening them is no device call.
+    fn slots(&mut self) -> MountId {
+        let count = self.device.borrow().slot_count();
+        *self.slots.get_or_insert_with(|| {
+            let open = |slot: usize| {
+                let name = format!("slot-{slot}");
+                let file = super::js::file_handle(&self.directory, &name, false);
+                ready(file).expect("the device has it")
+            };
+            sah::register_mount(self.directory.clone(), (0..count).map(open).collect())
+        })
+    }
+
+    /// The calls of a slot, which look at no pool.
+    fn slot_call(&mut self, op: &Op) -> Result<Answer, u8> {
+        let slots = self.slots();
+        let done = |()| Answer::done();
+        let answer = match op {
+            Op::ReadSlot(slot, at, length) => {
+                let mut buffer = script::lent(*length);
+                sah::read_slot(slots, *slot as usize, *at, &mut buffer)
+                    .map(|count| Answer::filled(count, &buffer))
+            }
+            Op::WriteSlot(slot, at, bytes) => {
+                sah::write_slot(slots, *slot as usize, *at, bytes).map(done)
+            }
+            Op::SyncSlot(slot, header) => {
+                // The original's row of a free slot has no path.
+                let bound = header.in_use != 0;
+                let state = Slot {
+                    path: bound.then(|| host_path(&header.path).to_path_buf()),
+                    len: header.length,
+                    generation: header.generation,
+                    header_dirty: true,
+                };
+                sah::sync_slot(slots, *slot as usize, &state).map(done)
+            }
+            Op::FlushSlot(slot) => sah::flush_slot(slots, *slot as usize).map(done),
+            Op::TruncateSlot(slot, length) => {
+                sah::truncate_slot(slots, *slot as usize, *length).map(done)
+            }
+            _ => unreachable!("no call of a slot"),
+        };
+        answer.map_err(|error| slot_number(&error))
+    }
+
     fn call(&mut self, op: &Op) -> Result<Answer, u8> {
         if let Op::Mount(count) = op {
             return self.mount(*count);
+        }
+        if op.is_slot_call() {
+            return self.slot_call(op);
         }
         let pool = self.pool.as_ref().ok_or(1)?;
         let say = |error: io::Error| number(&error);
         let done = |()| Answer::done();
         match op {
-            Op::Mount(_) => unreachable!("taken above"),
+            Op::Mount(_)
+            | Op::ReadSlot(..)
+            | Op::WriteSlot(..)
+            | Op::SyncSlot(..)
+            | Op::FlushSlot(_)
+            | Op::TruncateSlot(..) => unreachable!("taken above"),
             Op::Adopt(count) => {
                 // As `OpfsEnv::grow_pool` does it.
                 let first = pool.slot_count();
