@@ -9,10 +9,7 @@ use std::path::{Component, Path};
 use original::Decoded;
 use script::random::Rng;
 
-use crate::library;
-
-/// What a lent buffer holds before a call.
-const FILL: u8 = 0xAA;
+use crate::library::{Answer, Call, Library, hex};
 
 const NOT_TEXT: u8 = 3;
 const LONG: u8 = 4;
@@ -25,23 +22,42 @@ const EDGES: [u8; 22] = [
     0xEF, 0xF0, 0xF3, 0xF4, 0xF5, 0xFF,
 ];
 
-/// A run of the leaf comparisons.
-pub struct Leaves {
+/// A run of the leaf comparisons, or of a part of them.
+struct Leaves<'a> {
+    library: &'a mut Library,
     rng: Rng,
+    /// Which part of how many is made.
+    part: (u64, u64),
+    /// The number of the comparison, made or not.
+    number: u64,
     /// Inputs drawn at random for each call.
     random: u64,
     /// Words of this length and below are taken in pairs.
     pairs: usize,
-    counts: BTreeMap<&'static str, u64>,
+    counts: Counts,
 }
 
-/// How many comparisons were made of each kind, or the first difference in words.
-pub type Outcome = Result<BTreeMap<&'static str, u64>, String>;
+/// How many comparisons were made of each kind.
+pub type Counts = BTreeMap<&'static str, u64>;
 
-/// Compares everything. `quick` draws fewer inputs at random; what is exhaustive stays so.
-pub fn compare(quick: bool, seed: u64) -> Outcome {
+/// Compares everything: how often, or the first difference in words. `quick` draws fewer inputs at random; what is exhaustive
+/// stays so.
+pub fn compare(library: &mut Library, quick: bool, seed: u64) -> Result<Counts, String> {
+    part(library, quick, seed, (0, 1))
+}
+
+/// The same for one part of several, each of which holds some comparisons of every kind; together they are all.
+pub fn part(
+    library: &mut Library,
+    quick: bool,
+    seed: u64,
+    part: (u64, u64),
+) -> Result<Counts, String> {
     let mut leaves = Leaves {
+        library,
         rng: Rng::new(seed, 0),
+        part,
+        number: 0,
         random: if quick { 100_000 } else { 3_000_000 },
         pairs: if quick { 5 } else { 6 },
         counts: BTreeMap::new(),
@@ -52,11 +68,8 @@ pub fn compare(quick: bool, seed: u64) -> Outcome {
     leaves.random_paths()?;
     leaves.encodings()?;
     leaves.decodings()?;
+    leaves.library.settle().map_err(|found| found.to_string())?;
     Ok(leaves.counts)
-}
-
-fn hex(bytes: &[u8]) -> String {
-    bytes.iter().map(|byte| format!("{byte:02x}")).collect()
 }
 
 /// The check, written out plainly.
@@ -90,30 +103,52 @@ fn joined(path: &Path) -> Vec<u8> {
     spelling
 }
 
-/// A path call by its name, and what it has to spell, or the number that it refuses with.
-type PathCall = (
-    &'static str,
-    fn(&[u8], &mut [u8]) -> u64,
-    Result<Vec<u8>, u8>,
-);
-
-/// What a path call has to answer: a number, or bytes.
-fn wanted_in(spelling: Result<Vec<u8>, u8>, room: usize) -> (u64, Vec<u8>) {
-    let mut buffer = vec![FILL; room];
-    let answer = match spelling {
-        Err(number) => u64::from(number) << 32,
-        Ok(spelling) if spelling.len() > room => u64::from(SMALL) << 32,
+/// What a path call has to answer, given what it has to spell, or the number that it refuses with.
+fn wanted_in(spelling: &Result<Vec<u8>, u8>, mut out: Vec<u8>) -> Answer {
+    let number = match spelling {
+        Err(number) => u64::from(*number) << 32,
+        Ok(spelling) if spelling.len() > out.len() => u64::from(SMALL) << 32,
         Ok(spelling) => {
-            buffer[..spelling.len()].copy_from_slice(&spelling);
+            out[..spelling.len()].copy_from_slice(spelling);
             spelling.len() as u64
         }
     };
-    (answer, buffer)
+    Answer { number, out }
 }
 
-impl Leaves {
-    fn count(&mut self, kind: &'static str) {
+impl Leaves<'_> {
+    /// Whether the next comparison is one of this part. The number is mixed, so that a part has some of everything.
+    fn taken(&mut self) -> bool {
+        self.number += 1;
+        let (part, of) = self.part;
+        of == 1 || (self.number.wrapping_mul(0x9E37_79B9_7F4A_7C15) >> 32) % of == part
+    }
+
+    /// A buffer as a call is lent it.
+    fn lent(&self, room: usize) -> Vec<u8> {
+        vec![self.library.fill(); room]
+    }
+
+    /// Compares one call.
+    fn compared(&mut self, kind: &'static str, call: &Call, wanted: Answer) -> Result<(), String> {
         *self.counts.entry(kind).or_default() += 1;
+        self.library
+            .expect(call, wanted)
+            .map_err(|found| found.to_string())
+    }
+
+    /// The same for a call that is lent nothing.
+    fn numbered(
+        &mut self,
+        kind: &'static str,
+        call: &Call,
+        wanted: impl Into<u64>,
+    ) -> Result<(), String> {
+        let wanted = Answer {
+            number: wanted.into(),
+            out: Vec::new(),
+        };
+        self.compared(kind, call, wanted)
     }
 
     fn checks(&mut self) -> Result<(), String> {
@@ -126,42 +161,38 @@ impl Leaves {
             (b"chongo was here!\n", 0xd499_30d5),
         ];
         for (bytes, sum) in published {
-            self.count("slot_check, published vectors");
-            if fnv(0x811c_9dc5, bytes) != sum {
+            let start = 0x811c_9dc5;
+            if fnv(start, bytes) != sum {
                 return Err(format!(
                     "the judge itself misses the vector of {}",
                     hex(bytes)
                 ));
             }
-            if library::check(0x811c_9dc5, bytes) != sum {
-                return Err(format!("slot_check of {}: not {sum:08x}", hex(bytes)));
-            }
+            let call = Call::Check { start, bytes };
+            self.numbered("slot_check, published vectors", &call, sum)?;
         }
         for _ in 0..self.random {
             let most = if self.rng.one_in(16) { 600 } else { 40 };
             let length = self.rng.below(most);
             let bytes = self.rng.bytes(length);
             let start = self.rng.next() as u32;
-            self.count("slot_check, random");
-            let (given, wanted) = (library::check(start, &bytes), fnv(start, &bytes));
-            if given != wanted {
-                return Err(format!(
-                    "slot_check from {start:08x} of {}: {given:08x}, not {wanted:08x}",
-                    hex(&bytes)
-                ));
+            if self.taken() {
+                let call = Call::Check {
+                    start,
+                    bytes: &bytes,
+                };
+                self.numbered("slot_check, random", &call, fnv(start, &bytes))?;
             }
         }
         Ok(())
     }
 
     fn text(&mut self, kind: &'static str, bytes: &[u8]) -> Result<(), String> {
-        self.count(kind);
-        let wanted = u8::from(std::str::from_utf8(bytes).is_ok());
-        let given = library::text(bytes);
-        if given != wanted {
-            return Err(format!("text_is of {}: {given}, not {wanted}", hex(bytes)));
+        if !self.taken() {
+            return Ok(());
         }
-        Ok(())
+        let wanted = u8::from(std::str::from_utf8(bytes).is_ok());
+        self.numbered(kind, &Call::Text { bytes }, wanted)
     }
 
     fn texts(&mut self) -> Result<(), String> {
@@ -251,22 +282,16 @@ impl Leaves {
     }
 
     fn same(&mut self, kind: &'static str, a: &[u8], b: &[u8]) -> Result<(), String> {
-        self.count(kind);
+        if !self.taken() {
+            return Ok(());
+        }
         let both_text = std::str::from_utf8(a).is_ok() && std::str::from_utf8(b).is_ok();
         let wanted = if both_text {
             u8::from(host_path(a) == host_path(b))
         } else {
             NOT_TEXT
         };
-        let given = library::same(a, b);
-        if given != wanted {
-            return Err(format!(
-                "path_same of {} and {}: {given}, not {wanted}",
-                hex(a),
-                hex(b)
-            ));
-        }
-        Ok(())
+        self.numbered(kind, &Call::Same { a, b }, wanted)
     }
 
     /// Normal spelling and parent of one path, in buffers of all these lengths.
@@ -282,29 +307,20 @@ impl Leaves {
         } else {
             Err(NOT_TEXT)
         };
-        let calls: [PathCall; 2] = [
-            ("path_normal", library::normal, normal),
-            ("path_parent", library::parent, parent),
-        ];
-        for (name, call, spelling) in calls {
+        for (is_parent, spelling) in [(false, normal), (true, parent)] {
             let edge = spelling.as_ref().map_or(0, Vec::len);
-            for room in rooms
-                .iter()
-                .copied()
-                .chain(edge.saturating_sub(2)..=edge + 2)
-            {
-                self.count(kind);
-                let (wanted, buffer) = wanted_in(spelling.clone(), room);
-                let mut out = vec![FILL; room];
-                let given = call(path, &mut out);
-                if given != wanted || out != buffer {
-                    return Err(format!(
-                        "{name} of {} into {room} bytes: {given:#x} with {}, not {wanted:#x} with {}",
-                        hex(path),
-                        hex(&out),
-                        hex(&buffer)
-                    ));
+            let close = edge.saturating_sub(2)..=edge + 2;
+            for room in rooms.iter().copied().chain(close) {
+                if !self.taken() {
+                    continue;
                 }
+                let call = if is_parent {
+                    Call::Parent { path, room }
+                } else {
+                    Call::Normal { path, room }
+                };
+                let wanted = wanted_in(&spelling, self.lent(room));
+                self.compared(kind, &call, wanted)?;
             }
         }
         Ok(())
@@ -458,8 +474,11 @@ impl Leaves {
         path: &[u8],
         room: usize,
     ) -> Result<(), String> {
-        let mut buffer = vec![FILL; room];
-        let wanted = match std::str::from_utf8(path) {
+        if !self.taken() {
+            return Ok(());
+        }
+        let mut out = self.lent(room);
+        let number = match std::str::from_utf8(path) {
             Err(_) => NOT_TEXT,
             Ok(_) if path.len() > 480 => LONG,
             Ok(_) if room < 512 => SMALL,
@@ -470,30 +489,31 @@ impl Leaves {
                     len,
                     generation,
                 });
-                buffer[..512].copy_from_slice(&block);
+                out[..512].copy_from_slice(&block);
                 0
             }
         };
-        self.count(match wanted {
+        let kind = match number {
             0 => "header_encode, blocks",
             _ => "header_encode, refusals",
-        });
-        let mut out = vec![FILL; room];
-        let given = library::encode(in_use, len, generation, path, &mut out);
-        if given != wanted || out != buffer {
-            return Err(format!(
-                "header_encode({in_use}, {len}, {generation}, {}) into {room} bytes: {given} with {}, not {wanted} with {}",
-                hex(path),
-                hex(&out),
-                hex(&buffer)
-            ));
-        }
-        Ok(())
+        };
+        let call = Call::Encode {
+            in_use,
+            len,
+            generation,
+            path,
+            room,
+        };
+        let number = u64::from(number);
+        self.compared(kind, &call, Answer { number, out })
     }
 
     fn decoding(&mut self, block: &[u8], room: usize) -> Result<(), String> {
-        let mut buffer = vec![FILL; room];
-        let wanted = match (room < 32, judge_decode(block)) {
+        if !self.taken() {
+            return Ok(());
+        }
+        let mut out = self.lent(room);
+        let number = match (room < 32, judge_decode(block)) {
             (true, _) => SMALL,
             (false, None) => 1,
             (false, Some(header)) => {
@@ -503,28 +523,19 @@ impl Leaves {
                     header.len,
                     header.generation,
                 ];
-                for (place, field) in buffer.chunks_exact_mut(8).zip(fields) {
+                for (place, field) in out.chunks_exact_mut(8).zip(fields) {
                     place.copy_from_slice(&field.to_le_bytes());
                 }
                 0
             }
         };
-        self.count(match wanted {
+        let kind = match number {
             0 => "header_decode, headers",
             1 => "header_decode, absent",
             _ => "header_decode, refusals",
-        });
-        let mut out = vec![FILL; room];
-        let given = library::decode(block, &mut out);
-        if given != wanted || out != buffer {
-            return Err(format!(
-                "header_decode of {} into {room} bytes: {given} with {}, not {wanted} with {}",
-                hex(block),
-                hex(&out),
-                hex(&buffer)
-            ));
-        }
-        Ok(())
+        };
+        let number = u64::from(number);
+        self.compared(kind, &Call::Decode { block, room }, Answer { number, out })
     }
 
     fn decodings(&mut self) -> Result<(), String> {

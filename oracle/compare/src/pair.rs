@@ -7,6 +7,7 @@ use model::Model;
 use original::Original;
 use script::{Machine, Op, Runner, Script, Setup};
 
+use crate::library::{Difference, Library, hex};
 use crate::tally::Tally;
 
 /// What came of one operation.
@@ -45,8 +46,12 @@ fn free_with_path(op: &Op) -> bool {
 /// Whether the original has no such refusal.
 pub fn only_in_01(op: &Op, number: u8) -> bool {
     match number {
+        // A call of a slot has no other of these: given one, it differs.
+        2 if op.is_slot_call() => true,
+        3 | 4 if matches!(op, Op::SyncSlot(..)) => true,
+        _ if op.is_slot_call() => false,
         1 | 2 | 3 | 8 | 9 | 12 | 13 => true,
-        4 => matches!(op, Op::CreateDirAll(_) | Op::SyncSlot(..)),
+        4 => matches!(op, Op::CreateDirAll(_)),
         _ => false,
     }
 }
@@ -161,14 +166,35 @@ pub fn guarded<T>(work: impl FnOnce() -> Result<T, String>) -> Result<T, String>
     })
 }
 
+/// Makes a script smaller on which the library and the model differ, prints it, and ends the program with 1.
+pub fn library_differs(library: &mut Library, difference: &Difference) -> ! {
+    println!("{} and model: {difference}", library.name());
+    let bytes = difference.script().unwrap_or_default();
+    let differs = |library: &mut Library, script: &[u8]| {
+        let found = library.gives(script, &model::output(script)).err();
+        found.map(|found| found.to_string())
+    };
+    match Script::parse(bytes).filter(|script| script.bytes() == bytes) {
+        Some(script) => {
+            let small = script::shrink::shrink(&script, |script| {
+                differs(library, &script.bytes()).is_some()
+            });
+            let said = differs(library, &small.bytes()).unwrap_or(difference.to_string());
+            finish(&small, &said)
+        }
+        None => {
+            println!(
+                "DIFFERENCE in a damaged script: {difference}\n{}",
+                hex(bytes)
+            );
+            std::process::exit(1);
+        }
+    }
+}
+
 /// Prints a script on which two runners differ, in words and in hexadecimal, and ends the program with 1.
 pub fn finish(small: &Script, difference: &str) -> ! {
     println!("DIFFERENCE: {difference}\n{small}");
-    let hex: String = small
-        .bytes()
-        .iter()
-        .map(|byte| format!("{byte:02x}"))
-        .collect();
-    println!("script in hexadecimal: {hex}");
+    println!("script in hexadecimal: {}", hex(&small.bytes()));
     std::process::exit(1);
 }

@@ -4,7 +4,7 @@
 use std::path::Path;
 use std::time::Instant;
 
-use crate::library;
+use crate::library::linked as library;
 
 /// Bytes of a slot row's path and of a directory row.
 const NAME: usize = 480;

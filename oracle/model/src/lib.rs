@@ -13,4 +13,4 @@ mod run;
 mod slots;
 pub mod text;
 
-pub use run::{Model, ModelRunner};
+pub use run::{Model, ModelRunner, output};

@@ -182,6 +182,14 @@ fn pool_tables(pool: &Pool) -> PoolTables {
     }
 }
 
+/// The model's output on a script; empty if the setup isn't whole.
+pub fn output(bytes: &[u8]) -> Vec<u8> {
+    let Some(found) = Script::parse(bytes) else {
+        return Vec::new();
+    };
+    script::output(&mut Model::start(&found.setup), &found.ops)
+}
+
 /// The model as a runner of whole scripts.
 pub struct ModelRunner;
 
@@ -191,10 +199,6 @@ impl Runner for ModelRunner {
     }
 
     fn run(&mut self, bytes: &[u8], out: &mut [u8]) -> usize {
-        let Some(found) = Script::parse(bytes) else {
-            return 0;
-        };
-        let mut model = Model::start(&found.setup);
-        script::deliver(&script::output(&mut model, &found.ops), out)
+        script::deliver(&output(bytes), out)
     }
 }

@@ -11,7 +11,7 @@ use std::hint::black_box;
 use std::time::Instant;
 
 use compare::arguments::Arguments;
-use compare::library::{Library, NO_SCRIPTS};
+use compare::library::{Library, NOT_LINKED, linked};
 use compare::rows::{self, Rows};
 use model::Model;
 use model::header::{self, Header};
@@ -82,13 +82,13 @@ fn ways() -> Vec<Way> {
         name: "table scan",
         run: run_model,
     });
-    if Library::find().is_some() {
+    if linked::PRESENT {
         ways.push(Way {
             name: "library",
             run: run_library,
         });
     } else {
-        println!("library skipped: {NO_SCRIPTS}");
+        println!("library skipped, since only the linked one is timed: {NOT_LINKED}");
     }
     ways
 }
@@ -143,9 +143,7 @@ fn run_model(script: &Script, _bytes: &[u8], _out: &mut [u8]) {
 }
 
 fn run_library(_script: &Script, bytes: &[u8], out: &mut [u8]) {
-    if let Some(mut library) = Library::find() {
-        library.run(bytes, out);
-    }
+    Library::Linked.run(bytes, out);
 }
 
 /// The path of one file, of that many bytes.

@@ -1,25 +1,26 @@
 //! Compares the original and the model on all short scripts with every plan of at most two faults, and the library
 //! with the model if it is linked.
 //!
-//! `exhaustive [--depth N] [--faults N] [--device N] [--slots]`: calls after the mount (3), faults in a plan (2), one device
+//! `exhaustive [--depth N] [--faults N] [--device N] [--slots] [--piped]`: calls after the mount (3), faults in a plan (2), one device
 //! instead of all; with calls of slots too.
 
 use std::time::Instant;
 
 use compare::arguments::{Arguments, stop};
 use compare::exhaust;
-use compare::library::{self, Library};
-use compare::pair;
+use compare::library::Library;
+use compare::pair::{self, library_differs};
 use compare::tally::Tally;
-use model::{Model, ModelRunner};
+use model::Model;
 use script::{Machine, Script, shrink};
 
 fn main() {
-    let arguments = Arguments::read(&["depth", "faults", "device"], &["slots"]);
+    let arguments = Arguments::read(&["depth", "faults", "device"], &["slots", "piped"]);
     let depth = arguments.number("depth", 3) as usize;
     let faults = arguments.number("faults", 2) as usize;
     let only = arguments.number("device", u64::MAX);
-    if !original::PRESENT && Library::find().is_none() {
+    let mut library = Library::find(arguments.flag("piped"));
+    if !original::PRESENT && library.is_none() {
         stop("neither the original nor the library is there: nothing to compare");
     }
     println!("depth {depth}, at most {faults} faults");
@@ -29,7 +30,6 @@ fn main() {
         }
         let began = Instant::now();
         let mut tally = Tally::default();
-        let mut library = Library::find();
         let mut bare = 0u64;
         exhaust::scripts(&setup, depth, arguments.flag("slots"), &mut |script| {
             bare += 1;
@@ -37,6 +37,11 @@ fn main() {
                 run(script, &mut tally, &mut library)
             });
         });
+        if let Some(library) = &mut library
+            && let Err(difference) = library.settle()
+        {
+            library_differs(library, &difference);
+        }
         println!("device {number}, {about}: {bare} scripts without plans");
         print!("{tally}");
         println!(
@@ -56,13 +61,11 @@ fn run(script: &Script, tally: &mut Tally, library: &mut Option<Library>) -> u32
         });
         pair::finish(&small, &difference.to_string());
     }
+    let bytes = script.bytes();
     if let Some(library) = library
-        && let Err(difference) = library::agrees(library, &mut ModelRunner, &script.bytes())
+        && let Err(difference) = library.expect_output(&bytes, &model::output(&bytes))
     {
-        let small = shrink::shrink(script, |script| {
-            library::agrees(library, &mut ModelRunner, &script.bytes()).is_err()
-        });
-        pair::finish(&small, &format!("library and model: {difference}"));
+        library_differs(library, &difference);
     }
     let mut model = Model::start(&script.setup);
     for op in &script.ops {

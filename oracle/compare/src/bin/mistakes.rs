@@ -2,10 +2,11 @@
 //! planted mistake must be found. Built only with the feature `selfcheck`.
 
 use compare::leaves;
+use compare::library::Library;
 
 fn main() {
     library_standin::plant(0);
-    match leaves::compare(true, 1) {
+    match leaves::compare(&mut Library::Linked, true, 1) {
         Ok(counts) => println!(
             "no mistake planted: {} comparisons, no difference",
             counts.values().sum::<u64>()
@@ -18,7 +19,7 @@ fn main() {
     let mut missed = 0;
     for (number, mistake) in (1..).zip(library_standin::MISTAKES) {
         library_standin::plant(number);
-        match leaves::compare(true, 1) {
+        match leaves::compare(&mut Library::Linked, true, 1) {
             Ok(_) => {
                 missed += 1;
                 println!("MISSED: {mistake}");

@@ -1,6 +1,6 @@
 //! Records scripts with the original's answers and tables, or checks a record.
 //!
-//! `record [--seed N] [--draw N] FOLDER` writes the four files below; `record --check FOLDER` runs every recorded script on
+//! `record [--seed N] [--draw N] FOLDER` writes the four files below; `record --check [--piped] FOLDER` runs every recorded script on
 //! the model, the original and the library, as far as they are there, and compares the whole output.
 //!
 //! A file is a run of entries: u32 script length, script, u32 output length, output, little-endian. `original.bin` holds
@@ -14,7 +14,7 @@ use std::ops::RangeInclusive;
 use std::path::Path;
 
 use compare::arguments::{Arguments, stop};
-use compare::library::{self, Library};
+use compare::library::{Difference, Library};
 use compare::pair::{OriginalRunner, Pair, Step};
 use compare::tally::NAMES;
 use compare::{edges, slot_edges};
@@ -23,13 +23,13 @@ use script::make::{Flavour, Maker, whole};
 use script::{Op, Runner, Script, Tables, shrink};
 
 fn main() {
-    let arguments = Arguments::read(&["seed", "draw"], &["check"]);
+    let arguments = Arguments::read(&["seed", "draw"], &["check", "piped"]);
     let [folder] = arguments.plain() else {
-        stop("record [--seed N] [--draw N] [--check] FOLDER");
+        stop("record [--seed N] [--draw N] [--check] [--piped] FOLDER");
     };
     let folder = Path::new(folder);
     if arguments.flag("check") {
-        return check(folder);
+        return check(folder, arguments.flag("piped"));
     }
     if !original::PRESENT {
         stop("no regolith checkout: there is nothing to record");
@@ -134,20 +134,13 @@ fn run(script: &Script) -> Run {
     if asked {
         before.write(&mut output);
     } else {
-        output = of_model(&script.bytes());
+        output = model::output(&script.bytes());
     }
     Run {
         output,
         features,
         asked,
     }
-}
-
-fn of_model(bytes: &[u8]) -> Vec<u8> {
-    let mut output = vec![0; 1 << 20];
-    let length = ModelRunner.run(bytes, &mut output);
-    output.truncate(length);
-    output
 }
 
 fn feature(op: &Op, number: u8, before: &Tables, after: &Tables) -> Feature {
@@ -223,7 +216,7 @@ fn chosen(kind: &Kind, seed: u64, draw: u64) -> (Vec<Entry>, Vec<Entry>) {
     println!("with scripts drawn at random, {} cases", known.len());
     covered(&kind.codes, &known);
     not_asked.extend(kind.not_whole.iter().map(|bytes| {
-        let output = of_model(bytes);
+        let output = model::output(bytes);
         (bytes.clone(), output)
     }));
     (asked, not_asked)
@@ -318,11 +311,8 @@ fn not_whole() -> Vec<Vec<u8>> {
 }
 
 /// Runs every entry on the model and the library.
-fn check(folder: &Path) {
-    let mut library = Library::find();
-    if library.is_none() {
-        println!("library skipped: {}", library::NO_SCRIPTS);
-    }
+fn check(folder: &Path, piped: bool) {
+    let mut library = Library::find(piped);
     if !original::PRESENT {
         println!("original skipped: no regolith checkout when this was built");
     }
@@ -344,9 +334,6 @@ fn check(folder: &Path) {
             if original::PRESENT && *asked {
                 runners.push(&mut original);
             }
-            if let Some(library) = &mut library {
-                runners.push(library);
-            }
             for runner in runners {
                 let mut out = vec![0xA5; output.len() + 8];
                 let length = runner.run(script, &mut out);
@@ -359,9 +346,36 @@ fn check(folder: &Path) {
                 }
             }
         }
+        if let Some(library) = &mut library {
+            wrong += check_library(library, name, &entries);
+        }
         println!("{name}: {} entries run", entries.len());
     }
+    if let Some(library) = library {
+        library.end();
+    }
     std::process::exit(i32::from(wrong > 0));
+}
+
+/// Runs every entry of a file on the library: how many are wrong.
+fn check_library(library: &mut Library, name: &str, entries: &[Entry]) -> usize {
+    let mut wrong = 0;
+    let mut tell = |difference: &Difference| {
+        let script = difference.script().unwrap_or_default();
+        let number = entries.iter().position(|entry| entry.0 == script);
+        let number = number.map_or("?".to_owned(), |number| number.to_string());
+        println!("{name}, entry {number}: the library differs: {difference}");
+        wrong += 1;
+    };
+    for (script, output) in entries {
+        if let Err(difference) = library.expect_output(script, output) {
+            tell(&difference);
+        }
+    }
+    while let Err(difference) = library.settle() {
+        tell(&difference);
+    }
+    wrong
 }
 
 fn entries(mut bytes: &[u8]) -> Option<Vec<Entry>> {

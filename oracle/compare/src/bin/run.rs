@@ -1,18 +1,18 @@
 //! Runs one script and writes its output, or says the script in words.
 //!
-//! `run --with original|model|library FILE > OUTPUT`, `run --with words FILE`. The original is run with the model beside
+//! `run --with original|model|library [--piped] FILE > OUTPUT`, `run --with words FILE`. The original is run with the model beside
 //! it, which says where only 01 refuses.
 
 use std::io::Write;
 
 use compare::arguments::{Arguments, stop};
-use compare::library::{Library, NO_SCRIPTS};
+use compare::library::Library;
 use compare::pair;
 use model::ModelRunner;
 use script::{Runner, Script};
 
 fn main() {
-    let arguments = Arguments::read(&["with"], &[]);
+    let arguments = Arguments::read(&["with"], &["piped"]);
     let [file] = arguments.plain() else {
         stop("run --with original|model|library|words FILE");
     };
@@ -20,9 +20,13 @@ fn main() {
     let output = match arguments.word("with", "model").as_str() {
         "words" => words(&bytes).into_bytes(),
         "model" => whole(&mut ModelRunner, &bytes),
-        "library" => match Library::find() {
-            Some(mut library) => whole(&mut library, &bytes),
-            None => stop(NO_SCRIPTS),
+        "library" => match Library::find_silently(arguments.flag("piped")) {
+            Ok(mut library) => {
+                let output = whole(&mut library, &bytes);
+                library.end();
+                output
+            }
+            Err(why) => stop(&why),
         },
         "original" => pair::original_output(&bytes).unwrap_or_else(|why| stop(&why)),
         other => stop(&format!("there is no {other}")),
