@@ -1,7 +1,7 @@
 //! Drives the original by operations of a script and reads its tables.
 //!
-//! The original has no refusals 1, 2, 3, 8, 9, 12 and 13, and no 4 for directories. Whether one of them applies is
-//! told from outside: the operation is then not handed to the original, and only what 01 leaves behind is done.
+//! The original has no refusals 1, 2, 3, 8, 9, 12 and 13, and no 4 for directories and headers. Whether one of them
+//! applies is told from outside: the operation is then not handed to the original, and only what 01 leaves behind is done.
 
 use std::collections::BTreeSet;
 use std::ffi::OsStr;
