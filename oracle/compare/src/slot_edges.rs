@@ -338,12 +338,12 @@ pub fn ending_early() -> Vec<Vec<u8>> {
         ops: vec![sync(0, 1, 3, 7, b"a")],
     };
     let bytes = start.bytes();
-    let mut found = Vec::new();
+    let mut found = vec![bytes.clone()];
     for op in each(0) {
         let mut longer = start.clone();
         longer.ops.push(op);
         let longer = longer.bytes();
-        found.extend((bytes.len()..longer.len()).map(|end| longer[..end].to_vec()));
+        found.extend((bytes.len() + 1..longer.len()).map(|end| longer[..end].to_vec()));
     }
     for code in [17, 18, 19, 20, 21, 27, 28, 31] {
         let mut other = bytes.clone();
