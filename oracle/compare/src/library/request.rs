@@ -132,7 +132,8 @@ pub fn read(request: &[u8]) -> Option<Call<'_>> {
         }
         4 => Call::Text { bytes: body },
         5 => {
-            let (a, b) = body[4..].split_at_checked(lent(body)?)?;
+            let length = lent(body)?;
+            let (a, b) = body[4..].split_at_checked(length)?;
             Call::Same { a, b }
         }
         3 | 6 | 7 | 8 => {
