@@ -24,8 +24,13 @@ DEFINED = r"^\s*(?:abbrev |unfoldable )?(?:pub )?(?:record )?([\w′]+(?:-[\w′
 
 
 def tracked():
-    out = subprocess.run(["git", "ls-files"], cwd=ROOT, capture_output=True, text=True, check=True).stdout
-    return [name for name in out.splitlines() if (ROOT / name).is_file()]
+    """The repository's files: what git lists, or, in a copy without git, all but what is built."""
+    try:
+        out = subprocess.run(["git", "ls-files"], cwd=ROOT, capture_output=True, text=True, check=True).stdout.splitlines()
+    except (OSError, subprocess.CalledProcessError):
+        found = [path.relative_to(ROOT) for path in sorted(ROOT.rglob("*"))]
+        out = [str(path) for path in found if not {"target", ".git"} & set(path.parts)]
+    return [name for name in out if (ROOT / name).is_file()]
 
 
 def words(text):
