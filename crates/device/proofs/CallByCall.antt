@@ -21,7 +21,7 @@ use Rattle.device.specs.Device.{Dev, Shape, turn, onward, noted, share, 
 use Rattle.device.proofs.Shapes.{shape-means, shape-set, shape-stored}
 use Rattle.device.specs.Slots.{partOf, part-laid, part-other, front-grown, front-laid, share-le}
 use Rattle.device.specs.AnyDevice.{Call, look, header, flush, truncate, store, load, slotOf, sound, reads, quiet, onFile, Inside, Whole, moved}
-use Rattle.device.specs.Calls.{may, callM, givenM, lastOf, readAll, okM, blockOf, actM, givenBy, failedM, wholeM}
+use Rattle.device.specs.Calls.{SlotStays, may, callM, givenM, lastOf, readAll, okM, blockOf, actM, givenBy, failedM, wholeM}
 
 -- ---- what a call comes to
 
@@ -154,7 +154,7 @@ module _ (plan : List ℕ) (g : Geometry) where
   -- ---- one slot of a device of the right shape
 
   abbrev pub Same : Dev → Dev → ℕ → Type 0
-  Same d x j = (partOf (g .size) j (x .bytes) ≡ partOf (g .size) j (d .bytes)) × (physOf j x ≡ physOf j d)
+  Same d x j = SlotStays g j d x
 
   module _ (d : Dev) (i : ℕ) (s : Shape g (d .bytes) (d .phys)) (r : i < length (d .phys)) where
     room : i * g .size + g .size ≤ length (d .bytes)
@@ -208,12 +208,12 @@ module _ (plan : List ℕ) (g : Geometry) where
       unfolding storedBytes
       stored-length = length-laid (grown (i * g .size) (physOf i d) pos (d .bytes)) (i * g .size + pos) ys (omega (arith, room-grown)) ∙ grown-length pos before
 
-      stored-part : partOf (g .size) i (stored g i pos ys d .bytes) ≡ laid (laid (partOf (g .size) i (d .bytes)) (physOf i d) (replicate (pos - physOf i d) 0)) pos ys
+      pub stored-part : partOf (g .size) i (stored g i pos ys d .bytes) ≡ laid (laid (partOf (g .size) i (d .bytes)) (physOf i d) (replicate (pos - physOf i d) 0)) pos ys
       unfolding storedBytes
       stored-part =
           part-laid (g .size) i pos (grown (i * g .size) (physOf i d) pos (d .bytes)) ys room-grown l ∙ ap (λ (p : List ℕ). laid p pos ys) (grown-part pos before)
 
-      stored-phys : physOf i (stored g i pos ys d) ≡ max (physOf i d) (pos + length ys)
+      pub stored-phys : physOf i (stored g i pos ys d) ≡ max (physOf i d) (pos + length ys)
       unfolding storedPhys
       stored-phys = getD-set-same (d .phys) i (max (physOf i d) (pos + length ys)) 0 r
 

@@ -1,5 +1,6 @@
 -- The calls of AnyDevice on the device of document 01: the model's, but for one that the shape, the slot's number or a header's length rules out, which changes nothing and has failed.
 use Prim.Native.Nat.{ℕ, _+_, _-_, min}
+use mathlib.Core.Path.{_≡_}
 use mathlib.Core.Bool.{Bool, true, false, cond, not, _&&_}
 use mathlib.Core.List.{List, []}
 use lib.ListN.{length, take}
@@ -8,6 +9,10 @@ use Rattle.device.specs.declared.Geometry.{Geometry}
 use Rattle.device.specs.Device.{Dev, dev, shapeB, turn, share, physOf, given, seen, flushM, headerWriteM, dataWriteM, dataTruncateM}
 use Rattle.device.specs.Slots.{partOf}
 use Rattle.device.specs.AnyDevice.{Call, look, header, flush, truncate, store, load, slotOf, sound}
+
+-- Slot j has the bytes and the physical length that it had.
+abbrev pub SlotStays : Geometry → ℕ → Dev → Dev → Type 0
+SlotStays g j d e = (partOf (g .size) j (e .bytes) ≡ partOf (g .size) j (d .bytes)) × (physOf j e ≡ physOf j d)
 
 -- The device is of the right shape, and the call of one of its slots.
 unfoldable pub may : Geometry → Dev → Call → Bool

@@ -167,6 +167,15 @@ encode-one-outcome h path r r′ e e′ = e ∙ sym e′
 pub decode-one-outcome : DecodeOneOutcome
 decode-one-outcome b n r r′ e e′ = e ∙ sym e′
 
+-- ---- the path of a header's block
+
+pub encoded-path : (h : Header) (path : List ℕ) → Fits h path → isText path ≡ true → pathOf (encoded h path) ≡ path
+unfolding encoded fixed
+encoded-path h path f x =
+    let p = found (encoded h path) blockLen h .0 (decode-encode h path f x) in
+    let e : field (encoded h path) 8 4 ≡ length path = sym (ap (λ (y : Header). y .«path_len») (p .fields)) ∙ sym (f .same-length) in
+    ap (λ (k : ℕ). take k (drop 32 (encoded h path))) e ∙ take-at path _ (length path) refl
+
 -- ---- a header that was cut
 
 pub cut-short-decodes : CutShortDecodes

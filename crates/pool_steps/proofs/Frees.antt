@@ -10,28 +10,19 @@ use lib.ListN.{length, take, drop, length-append, length-take, length-drop}
 use borrow.Author.Tests.{eq-eqb, ltb-true, ltb-false}
 use Rattle.text.specs.Text.{none}
 use Rattle.text.specs.Grammar.{text-complete}
-use Rattle.header.specs.declared.Decoded.{Decoded}
 use Rattle.header.specs.declared.Decoded.the-variants.{Found}
 use Rattle.header.specs.Block.{freeHeader, decoded}
 use Rattle.header.proofs.BlockLaws.{short-absent}
 use Rattle.header.proofs.RoundTrip.{decode-encode, cut-free-decodes}
 use Rattle.device.specs.declared.Geometry.{Geometry}
-use Rattle.device.specs.Device.{Dev, Shape, physOf, flushM, headerWriteM, dataTruncateM}
-use Rattle.device.specs.Slots.{partOf}
-use Rattle.device.specs.AnyDevice.{Call, header, flush, truncate, slotOf, sound, same-block, file-keeps, header-phys, failed-block}
-use Rattle.device.specs.Calls.{callM, actM, failedM, wholeM, blockOf}
-use Rattle.device.proofs.CallByCall.{acts, be-may}
+use Rattle.device.specs.Device.{Dev, Shape, flushM, headerWriteM, dataTruncateM}
+use Rattle.device.specs.AnyDevice.{Call, header, flush, truncate, slotOf, sound, same-block, file-keeps}
+use Rattle.device.specs.Calls.{SlotStays, callM, blockOf}
+use Rattle.device.proofs.CallByCall.{acts}
 use Rattle.device.proofs.Memory.{memory}
-use Rattle.pool_steps.specs.Steps.{fineM, putM, freeBlock, freeM}
+use Rattle.device_lent.proofs.Puts.{put-block, put-phys, put-stopped}
+use Rattle.pool_steps.specs.Steps.{fineM, putM, freeBlock, freeM, says}
 use Rattle.pool_steps.proofs.Stays.{Kept, call-kept, put-kept, then-keeps, length-free}
-
--- Slot j has the bytes and the physical length that it had.
-abbrev pub SlotStays : Geometry → ℕ → Dev → Dev → Type 0
-SlotStays g j d e = (partOf (g .size) j (e .bytes) ≡ partOf (g .size) j (d .bytes)) × (physOf j e ≡ physOf j d)
-
--- What a slot's header says that is read in full.
-abbrev pub says : Geometry → ℕ → Dev → Decoded
-says g i d = decoded (blockOf g i d) (length (blockOf g i d))
 
 module _ (plan : List ℕ) (g : Geometry) (i : ℕ) (d : Dev) (s : Shape g (d .bytes) (d .phys)) (r : i < length (d .phys)) where
   -- ---- every other slot stays
@@ -72,38 +63,6 @@ module _ (plan : List ℕ) (g : Geometry) (i : ℕ) (d : Dev) (s : Shape g (d .b
 
   -- ---- the slot itself
 
-  module _ (ys : List ℕ) (o : length ys ≡ 512) where
-    abbrev stored : Dev
-    stored = headerWriteM plan g i ys d
-
-    abbrev call : Call
-    call = header i ys
-
-    acted : actM plan g d call ≡ stored
-    acted = acts plan g d call s r (eq-eqb _ _ o)
-
-    was-ok : wholeM plan g d call ≡ fineM stored
-    was-ok = rw (be-may plan g d call s r (eq-eqb _ _ o))
-
-    -- a header that was written whole, flushed or not
-    pub put-block : fineM stored ≡ true → blockOf g i (putM plan g i ys d) ≡ ys
-    unfolding putM flushM
-    put-block f = rw f (subst (λ (x : Dev). blockOf g i x ≡ ys) acted (memory plan g .written d i ys (was-ok ∙ f)))
-
-    put-phys : fineM stored ≡ true → 512 ≤ physOf i (putM plan g i ys d)
-    unfolding putM flushM
-    put-phys f = rw f (subst (λ (x : Dev). 512 ≤ physOf i x) acted (header-phys (memory plan g) d i ys (was-ok ∙ f)))
-
-    -- one that was not: as before, or cut to its first half
-    pub put-stopped : fineM stored ≡ false → (putM plan g i ys d ≡ stored)
-        × ((blockOf g i stored ≡ blockOf g i d) ⊎ (blockOf g i stored ≡ take 256 ys ++ drop 256 (blockOf g i d)))
-    unfolding putM
-    put-stopped f = (rw f, go (failedM plan g d call) refl)
-      where
-        go : (t : Bool) → failedM plan g d call ≡ t → (blockOf g i stored ≡ blockOf g i d) ⊎ (blockOf g i stored ≡ take 256 ys ++ drop 256 (blockOf g i d))
-        go true e = inl (subst (λ (x : Dev). blockOf g i x ≡ blockOf g i d) acted (failed-block (memory plan g) d call i e))
-        go false e = inr (subst (λ (x : Dev). blockOf g i x ≡ take 256 ys ++ drop 256 (blockOf g i d)) acted (memory plan g .torn d i ys (was-ok ∙ f) e))
-
   module _ (generation : ℕ) where
     abbrev free : List ℕ
     free = freeBlock generation
@@ -118,16 +77,16 @@ module _ (plan : List ℕ) (g : Geometry) (i : ℕ) (d : Dev) (s : Shape g (d .b
         let e = putM plan g i free d in
         let k = put-kept plan g i d s r free in
         let n : i < length (e .phys) = omega (arith, k .slots) in
-        let b = put-block free (length-free generation) f in
+        let b = put-block plan g i d s r free (length-free generation) f in
         let a = acts plan g e (truncate i 0) (k .shape) n refl in
-        let t = file-keeps (memory plan g) e (truncate i 0) refl (put-phys free (length-free generation) f) in
+        let t = file-keeps (memory plan g) e (truncate i 0) refl (put-phys plan g i d s r free (length-free generation) f) in
         then-keeps (λ x. blockOf g i x ≡ free) e (dataTruncateM plan g i 0) b (subst (λ (x : Dev). blockOf g i x ≡ free) a (t ∙ b))
 
     -- where it was not, nothing more was done
     free-stopped : whole ≡ false → freeM plan g i generation d ≡ headerWriteM plan g i free d
     unfolding freeM
     free-stopped f =
-        let p = put-stopped free (length-free generation) f .0 in
+        let p = put-stopped plan g i d s r free (length-free generation) f .0 in
         let q : fineM (putM plan g i free d) ≡ false = ap fineM p ∙ f in
         rw q p
 
@@ -176,4 +135,4 @@ module _ (plan : List ℕ) (g : Geometry) (i : ℕ) (d : Dev) (s : Shape g (d .b
 
         go : (t : Bool) → whole ≡ t → (says g i (freeM plan g i generation d) ≡ says g i d) ⊎ (says g i (freeM plan g i generation d) ≡ Found (freeHeader generation))
         go true f = inr (free-says-whole l f)
-        go false f = after f (put-stopped free (length-free generation) f .1)
+        go false f = after f (put-stopped plan g i d s r free (length-free generation) f .1)

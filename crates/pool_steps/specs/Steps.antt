@@ -4,9 +4,11 @@ use mathlib.Core.Bool.{Bool, cond}
 use mathlib.Core.List.{List, []}
 use lib.ListN.{length}
 use Rattle.header.specs.declared.Header.{Header}
-use Rattle.header.specs.Block.{freeHeader, boundHeader, encoded}
+use Rattle.header.specs.declared.Decoded.{Decoded}
+use Rattle.header.specs.Block.{freeHeader, boundHeader, encoded, decoded}
 use Rattle.device.specs.declared.Geometry.{Geometry}
 use Rattle.device.specs.Device.{Dev, dataTruncateM}
+use Rattle.device.specs.Calls.{blockOf}
 pub use Rattle.device_lent.specs.Put.{fineM, andThen}
 unfoldable pub use Rattle.device_lent.specs.Put.{putM}
 use Rattle.slot_rows.specs.Rows.{Row, unbound, at, pathOf, genOf, lenOf, cleaned}
@@ -24,6 +26,10 @@ freeBlock generation = encoded (freeHeader generation) []
 -- "write the free header, flush, truncate to 0"
 unfoldable pub freeM : List ℕ → Geometry → ℕ → ℕ → Dev → Dev
 freeM plan g slot generation d = andThen (putM plan g slot (freeBlock generation) d) (dataTruncateM plan g slot 0)
+
+-- What a slot's header says that is read in full.
+abbrev pub says : Geometry → ℕ → Dev → Decoded
+says g i d = decoded (blockOf g i d) (length (blockOf g i d))
 
 -- ---- on the pool
 

@@ -22,7 +22,8 @@ use Rattle.device.specs.Calls.{blockOf}
 use Rattle.device.proofs.Memory.{memory}
 use Rattle.pool_steps.specs.Steps.{fineM, putM, freeBlock, freeM}
 use Rattle.pool_steps.proofs.Stays.{length-free}
-use Rattle.pool_steps.proofs.Frees.{free-others, put-stopped, free-block}
+use Rattle.pool_steps.proofs.Frees.{free-others, free-block}
+use Rattle.device_lent.proofs.Puts.{put-stopped}
 use Rattle.mount_survey.specs.Heads.{absent, idle, saidOf, headOf}
 use Rattle.promises.specs.Demand3.{headerAt}
 

@@ -33,7 +33,7 @@ use Rattle.pool_steps.specs.World.{World, world, Lent, lent, viewW, flatW, Fit,
 use Rattle.pool_steps.specs.Steps as S
 use Rattle.pool_steps.specs.Outcome.{Outcome, None, flatO}
 use Rattle.pool_steps.proofs.Stays.{world-is}
-use Rattle.pool_steps.proofs.Frees.{SlotStays}
+use Rattle.device.specs.Calls.{SlotStays}
 use Rattle.mount_survey.specs.Heads as He
 use Rattle.mount_survey.specs.Heads.{claim, headOf}
 use Rattle.mount_survey.specs.Survey as Su

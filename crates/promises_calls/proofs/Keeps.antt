@@ -18,7 +18,8 @@ use Rattle.pool_steps.specs.World.{World, world, Lent, lent, viewW, flatW, Fit}
 use Rattle.pool_steps.specs.Steps.{releaseM}
 use Rattle.pool_steps.specs.Outcome.{Outcome, None, only, flatO}
 use Rattle.pool_steps.proofs.Stays.{ready-fit, release-row, release-other}
-use Rattle.pool_steps.proofs.Frees.{SlotStays, free-others}
+use Rattle.device.specs.Calls.{SlotStays}
+use Rattle.pool_steps.proofs.Frees.{free-others}
 use Rattle.mount_survey.specs.Heads.{Reads, readsM}
 use Rattle.mount_survey.specs.Survey.{Survey, scan}
 use Rattle.mount_survey.proofs.Surveyed.{scan-length}

@@ -4,19 +4,16 @@ use native.Mathlib.Omega.{arith}
 use mathlib.Core.Path.{_≡_, refl, sym, ap, _∙_}
 use mathlib.Core.Bool.{Bool, true, false, cond, false≢true}
 use mathlib.Core.List.{List}
-use lib.ListN.{length, take, drop}
-use lib.Seq.{take-at}
+use lib.ListN.{length}
 use borrow.Author.Tests.{eq-eqb, lt-ltb}
 use Rattle.limits.specs.Limits.{maxPath}
-use Rattle.le.specs.Le.{field}
 use Rattle.text.specs.Text.{isText}
-use Rattle.header.specs.declared.Header.{Header}
 use Rattle.header.specs.declared.Decoded.the-variants.{Found}
-use Rattle.header.specs.Block.{blockLen, encoded, fixed, decoded}
+use Rattle.header.specs.Block.{blockLen, decoded}
 use Rattle.header.specs.Block as Block
 use Rattle.header.specs.RoundTrip.{Fits}
-use Rattle.header.proofs.BlockLaws.{length-encoded, found}
-use Rattle.header.proofs.RoundTrip.{decode-encode}
+use Rattle.header.proofs.BlockLaws.{length-encoded}
+use Rattle.header.proofs.RoundTrip.{decode-encode, encoded-path}
 use Rattle.device.specs.declared.Geometry.{Geometry}
 use Rattle.device.specs.Device.{Dev, flushM, headerWriteM}
 use Rattle.device.specs.Calls.{blockOf}
@@ -25,7 +22,7 @@ use Rattle.pool_steps.specs.World.{World, world, viewW, flatW, Fit}
 use Rattle.pool_steps.specs.Steps.{fineM, putM, rowHeader, rowBlock, syncRowM}
 use Rattle.pool_steps.specs.Outcome.{outcome, byDevice, flatO}
 use Rattle.pool_steps.proofs.Stays.{ready-fit}
-use Rattle.pool_steps.proofs.Frees.{put-block, put-stopped}
+use Rattle.device_lent.proofs.Puts.{put-block, put-stopped}
 use Rattle.mount_survey.specs.Heads.{saidOf, headOf}
 use Rattle.inner_handle.specs.Handles.{isLive, syncM}
 use Rattle.inner_handle.proofs.Stays.{live-means}
@@ -37,15 +34,7 @@ use Rattle.calls_gate.proofs.Passed.{is-ready}
 use Rattle.promises_calls.specs.Bytes.{Synced, WhatWasSyncedIsFound}
 use Rattle.calls_gate.proofs.Inward.{goes-in, not-refused}
 
--- ---- an encoded header
-
--- The path of its block.
-encoded-path : (h : Header) (path : List ℕ) → Fits h path → isText path ≡ true → Block.pathOf (encoded h path) ≡ path
-unfolding encoded fixed
-encoded-path h path f x =
-    let p = found (encoded h path) blockLen h .0 (decode-encode h path f x) in
-    let e : field (encoded h path) 8 4 ≡ length path = sym (ap (λ (y : Header). y .«path_len») (p .fields)) ∙ sym (f .same-length) in
-    ap (λ (k : ℕ). take k (drop 32 (encoded h path))) e ∙ take-at path _ (length path) refl
+-- ---- a row's block
 
 -- The block of a row says the row.
 module _ (g : Geometry) (slot : ℕ) (r : Row) (d : Dev) (block : blockOf g slot d ≡ rowBlock r) (text : isText (pathOf r) ≡ true)

@@ -1,28 +1,26 @@
--- `what-was-written-is-read`: a write that was done is `stored` (`wrote-is`), so the slot's part is the old one with zeros and b laid into
--- it (`stored-part`), and a read of b's range gives b (`laid-read`).
+-- `what-was-written-is-read`: the device gives back what was written and keeps what lies beside it (device, WrittenRead); here, that the
+-- handle is live still and the file as long.
 use Prim.Native.Nat.{ℕ, _+_, _-_, _*_, _≤_, _<_, min, max}
-use native.Mathlib.Nat.{mul-le-mul-left}
 use native.Mathlib.Omega.{arith}
-use mathlib.Core.Path.{_≡_, refl, sym, ap, ap₂, _∙_, subst}
-use mathlib.Core.Logic.{_≢_, _⊎_, inl, inr}
+use mathlib.Core.Path.{_≡_, refl, sym, ap, _∙_, subst}
+use mathlib.Core.Logic.{_≢_, _⊎_}
 use mathlib.Core.Bool.{Bool, true, false, cond, false≢true}
 use mathlib.Core.List.{List, [], _∷_, append-nil}
-use lib.Dec.{eqb, ltb, leb}
-use lib.ListN.{length, getD, set, take, drop, replicate, length-set, length-replicate, drop-of-length-le}
+use lib.Dec.{eqb, leb}
+use lib.ListN.{length, getD, set, take, drop, length-set, drop-of-length-le}
 use lib.Seq.{getD-set-same, getD-set-other, take-all, drop-cons}
-use borrow.Author.Tests.{ltb-false, lt-ltb, eq-eqb, leb-true, not-true}
+use borrow.Author.Tests.{lt-ltb, eq-eqb, leb-true, not-true}
 use Rattle.lists.specs.Bools.{both}
-use Rattle.lists.specs.Fronts.{take-inside}
-use Rattle.le.specs.Le.{laid}
-use Rattle.le.proofs.Parts.{length-laid, laid-whole, laid-read, laid-read-before, laid-read-behind}
+use Rattle.le.proofs.Parts.{laid-whole}
 use Rattle.device.specs.declared.Geometry.{Geometry}
-use Rattle.device.specs.Device.{Dev, Shape, turn, onward, noted, short, stores, physOf, given, seen, grown, storedBytes, storedPhys, stored}
-use Rattle.device.specs.Device.{writeM, readM, dataReadM, dataWriteM}
-use Rattle.device.specs.Slots.{partOf, part-laid, share-le}
-use Rattle.device.specs.AnyDevice.{store, load}
+use Rattle.device.specs.Device.{Dev, turn, onward, noted, physOf, given, seen, stored}
+use Rattle.device.specs.Device.{readM, dataReadM, dataWriteM}
+use Rattle.device.specs.Slots.{partOf}
+use Rattle.device.specs.AnyDevice.{store}
 use Rattle.device.specs.Calls.{readAll}
-use Rattle.device.proofs.CallByCall.{acts, be-may, load-given, part-size}
+use Rattle.device.proofs.CallByCall.{acts, part-size}
 use Rattle.device.proofs.Memory.{memory}
+use Rattle.device.proofs.WrittenRead.{wrote-is, given-back, byte-stays}
 use Rattle.slot_rows.specs.Rows.{Row, unbound, bound, none, at, isBound, genOf, lenOf, refiled, resized}
 use Rattle.slot_rows.proofs.InBuffers.{resized-bound, resized-gen}
 use Rattle.pool_state.specs.State.{view}
@@ -31,7 +29,7 @@ use Rattle.pool_steps.specs.World.{World, world, Lent, viewW, flatW, Fit, Ready
 use Rattle.pool_steps.specs.Steps.{fineM}
 use Rattle.pool_steps.specs.Outcome.{Outcome, outcome, byDevice, flatO}
 use Rattle.pool_steps.proofs.Stays.{ready-fit, world-is}
-use Rattle.pool_steps.proofs.Frees.{SlotStays}
+use Rattle.device.specs.Calls.{SlotStays}
 use Rattle.inner_handle.specs.Handles.{isLive, Filling, filling, readPart, readAtM, resizedM, writeAtM}
 use Rattle.inner_handle.proofs.Stays.{live-means, write-at-fit}
 use Rattle.calls_gate.specs.declared.Call.the-variants.{ReadAt, WriteAt}
@@ -42,99 +40,7 @@ use Rattle.calls_gate.proofs.Passed.{is-ready}
 use Rattle.promises_calls.specs.Bytes.{rowIn, byteAt, Written, WhatWasWrittenIsRead}
 use Rattle.calls_gate.proofs.Inward.{goes-in, not-refused, on-pool}
 
--- ---- a write that was done
-
-short-none : (n m : ℕ) → short n m ≡ 0 → m ≤ n
-unfolding short
-short-none n m e = go (ltb n m) refl e
-  where
-    go : (t : Bool) → ltb n m ≡ t → _≡_ {A = ℕ} (cond t 11 0) 0 → m ≤ n
-    go true q f = absurd (omega arith)
-    go false q f = ltb-false n m q
-
--- It stored all its bytes, within the slot.
-wrote-is : (plan : List ℕ) (g : Geometry) (i pos : ℕ) (src : List ℕ) (d : Dev) → writeM plan g i pos src d .place .last ≡ 0
-    → (writeM plan g i pos src d ≡ noted plan 0 (stored g i pos src d)) × (pos + length src ≤ g .size)
-unfolding writeM onward stores
-wrote-is plan g i pos src d z = go (eqb (turn plan (d .place)) 1) (ltb (g .size) pos) refl z
-  where
-    n : ℕ
-    n = stores (turn plan (d .place)) (g .size) pos (length src)
-
-    ends : Bool → Bool → Dev
-    ends s t = cond s (noted plan 10 d) (cond t (noted plan 10 d) (noted plan (short n (length src)) (stored g i pos (take n src) d)))
-
-    at-most : n ≤ min (length src) (g .size - pos)
-    at-most = share-le (turn plan (d .place)) (min (length src) (g .size - pos))
-
-    go : (s t : Bool) → ltb (g .size) pos ≡ t → ends s t .place .last ≡ 0
-        → (ends s t ≡ noted plan 0 (stored g i pos src d)) × (pos + length src ≤ g .size)
-    go true t e q = absurd (omega arith)
-    go false true e q = absurd (omega arith)
-    go false false e q =
-        let l : length src ≤ n = short-none n (length src) q in
-        let p : pos ≤ g .size = ltb-false (g .size) pos e in (
-          ap₂ (λ (k : ℕ) (s : List ℕ). noted plan k (stored g i pos s d)) q (take-all n src l),
-          omega (arith, at-most),
-        )
-
--- ---- the slot's part after it
-
-module _ (g : Geometry) (d : Dev) (i : ℕ) (s : Shape g (d .bytes) (d .phys)) (r : i < length (d .phys)) (pos : ℕ) (b : List ℕ)
-    (fits : pos + length b ≤ g .size) where
-  abbrev part : List ℕ
-  part = partOf (g .size) i (d .bytes)
-
-  abbrev zeros : List ℕ
-  zeros = replicate (pos - physOf i d) 0
-
-  room : i * g .size + g .size ≤ length (d .bytes)
-  room = omega (arith, mul-le-mul-left (g .size) r, s .slots)
-
-  gap : physOf i d + length zeros ≤ g .size
-  gap = simp length-replicate (omega (arith, s .within i r))
-
-  grown-length : length (grown (i * g .size) (physOf i d) pos (d .bytes)) ≡ length (d .bytes)
-  unfolding grown
-  grown-length = length-laid (d .bytes) (i * g .size + physOf i d) zeros (omega (arith, gap, room))
-
-  stored-part : partOf (g .size) i (stored g i pos b d .bytes) ≡ laid (laid part (physOf i d) zeros) pos b
-  unfolding storedBytes grown
-  stored-part =
-      part-laid (g .size) i pos (grown (i * g .size) (physOf i d) pos (d .bytes)) b (omega (arith, grown-length, room)) fits
-      ∙ ap (λ (p : List ℕ). laid p pos b) (part-laid (g .size) i (physOf i d) (d .bytes) zeros room gap)
-
-  abbrev before : List ℕ
-  before = laid part (physOf i d) zeros
-
-  before-long : length before ≡ g .size
-  before-long =
-      let n = part-size [] g d i s r in
-      length-laid part (physOf i d) zeros (omega (arith, gap, n)) ∙ n
-
-  stored-phys : physOf i (stored g i pos b d) ≡ max (physOf i d) (pos + length b)
-  unfolding storedPhys
-  stored-phys = getD-set-same (d .phys) i (max (physOf i d) (pos + length b)) 0 r
-
-  -- what was stored is read,
-  read-back : take (length b) (drop pos (take (physOf i (stored g i pos b d)) (partOf (g .size) i (stored g i pos b d .bytes)))) ≡ b
-  read-back =
-      let e = stored g i pos b d in
-      take-inside pos (length b) (physOf i e) (partOf (g .size) i (e .bytes)) (omega (arith, stored-phys))
-      ∙ ap (λ (p : List ℕ). take (length b) (drop pos p)) stored-part
-      ∙ laid-read before pos b (omega (arith, before-long))
-
-  -- and every other byte below the old length is as it was.
-  one-stays : (k : ℕ) → k < physOf i d → (k < pos) ⊎ (pos + length b ≤ k)
-      → take 1 (drop k (partOf (g .size) i (stored g i pos b d .bytes))) ≡ take 1 (drop k part)
-  one-stays k h e =
-      let n = part-size [] g d i s r in
-      ap (λ (p : List ℕ). take 1 (drop k p)) stored-part ∙ go e
-      ∙ laid-read-before part (physOf i d) zeros (omega (arith, s .within i r, n)) k 1 (omega arith)
-    where
-      go : (k < pos) ⊎ (pos + length b ≤ k) → take 1 (drop k (laid before pos b)) ≡ take 1 (drop k before)
-      go (inl e) = laid-read-before before pos b (omega (arith, before-long)) k 1 (omega arith)
-      go (inr e) = laid-read-behind before pos b (omega (arith, before-long)) k 1 e
+-- ---- bytes
 
 -- Two lists with one run of a byte at place k have that byte.
 byte-of : (p q : List ℕ) (k : ℕ) → k < length p → k < length q → take 1 (drop k p) ≡ take 1 (drop k q) → getD p k 0 ≡ getD q k 0
@@ -224,14 +130,7 @@ module _ (plan : List ℕ) (g : Geometry) (slot generation pos : ℕ) (b : List 
 
     given-is : given plan′ g slot (512 + pos) (length b) d′ ≡ b
     given-is =
-        let s = fit-then .shape in
-        let r = inside-then in
-        let c = load slot pos (length b) in
-        let m = be-may plan′ g d′ c s r refl in
-        let e = load-given plan′ g d′ slot pos (length b) (rw m calm) in
-        (rw m at e)
-        ∙ ap (λ (x : Dev). take (length b) (drop (512 + pos) (take (physOf slot x) (partOf (g .size) slot (x .bytes))))) (stored-is .0)
-        ∙ read-back g (w .dev) slot (F .shape) inside (512 + pos) b (stored-is .1)
+        given-back g (w .dev) slot (F .shape) inside pos b (stored-is .1) plan′ plan d′ (stored-is .0) (fit-then .shape) inside-then calm
 
     Gives : Outcome Filling World → Type 0
     Gives o = (o .out ≡ 0) × (o .results .count ≡ length b) × (o .results .buf ≡ b)
@@ -280,7 +179,7 @@ module _ (plan : List ℕ) (g : Geometry) (slot generation pos : ℕ) (b : List 
       let m = part-size plan g (then .dev) slot s (inside-then plan g slot generation pos b w F y) in
       byte-of _ _ k (omega (arith, m, F .shape .within slot r)) (omega (arith, n, F .shape .within slot r))
       (ap (λ (x : Dev). take 1 (drop k (partOf (g .size) slot (x .bytes)))) (q .0)
-      ∙ one-stays g (l .dev) slot (F .shape) r (512 + pos) b (q .1) k h e)
+      ∙ byte-stays g (l .dev) slot (F .shape) r (512 + pos) b (q .1) k h e)
 
   slot-stays : (j : ℕ) → j ≢ slot → SlotStays g j (l .dev) (then .dev)
   unfolding viewW

@@ -15,7 +15,8 @@ use Rattle.device.specs.Calls.{readAll, blockOf}
 use Rattle.slot_rows.specs.Rows.{Row, at, pathOf, genOf, lenOf, isDirty}
 use Rattle.pool_state.specs.State.{view}
 use Rattle.pool_steps.specs.World.{Lent}
-use Rattle.pool_steps.proofs.Frees.{SlotStays, says}
+use Rattle.device.specs.Calls.{SlotStays}
+use Rattle.pool_steps.specs.Steps.{says}
 use Rattle.mount_survey.specs.Heads.{claim, headOf}
 use Rattle.calls_gate.specs.declared.Call.the-variants.{ReadAt, WriteAt, Sync}
 use Rattle.calls_gate.specs.Calls.{callP}

@@ -7,7 +7,7 @@ use Rattle.device.specs.declared.Geometry.{Geometry}
 use Rattle.slot_rows.specs.Rows.{at, isBound}
 use Rattle.pool_state.specs.State.{view}
 use Rattle.pool_steps.specs.World.{Lent}
-use Rattle.pool_steps.proofs.Frees.{SlotStays}
+use Rattle.device.specs.Calls.{SlotStays}
 use Rattle.calls_gate.specs.declared.Call.{Call}
 use Rattle.calls_gate.specs.declared.Call.the-variants.{Mount, Adopt}
 use Rattle.calls_gate.specs.Calls.{callP}
