@@ -98,11 +98,17 @@ module _ (plan : List ℕ) (g : Geometry) (k : ℕ) (one two buf : List ℕ) (l 
     unfolding mounted
     flat-left = ap (λ (x : Came). x .left) call-is ∙ rw (eq-eqb (inside .out) 0 mount-accepted) refl
 
+    left-is : (viewW (call .left) ≡ inside .left) × Ready g (call .left)
+    left-is =
+        world-is g (inside .left) (call .left)
+        (mount-valid plan g (chosenOf (l .bufs)) k (l .dev) (mount-fits .0) (mount-fits .1) (mount-fits .2)) flat-left
+
     -- What it leaves in the buffers is its pool, with its device.
     pub mount-left : viewW (call .left) ≡ inside .left
-    mount-left =
-        world-is g (inside .left) (call .left)
-        (mount-valid plan g (chosenOf (l .bufs)) k (l .dev) (mount-fits .0) (mount-fits .1) (mount-fits .2)) flat-left .0
+    mount-left = left-is .0
+
+    pub mount-ready : Ready g (call .left)
+    mount-ready = left-is .1
 
     pub mount-held : view (call .left .bufs) ≡ inside .left .state
     unfolding viewW

@@ -30,6 +30,11 @@ use Rattle.mount_survey.specs.Heads.{Head, absent, idle, claim, saidOf, 
 use Rattle.mount_survey.specs.Survey.{claimRow}
 use Rattle.mount_survey.specs.Claims.{rowOf, asksFor, asks, askedOf}
 
+-- Fewer than 512 bytes say nothing.
+pub short-said : (bs : List ℕ) → length bs < 512 → headOf bs ≡ absent
+unfolding headOf
+short-said bs h = ap (saidOf bs) (short-absent bs (length bs) h)
+
 -- ---- one read
 
 given-le : (plan : List ℕ) (g : Geometry) (i pos n : ℕ) (d : Dev) → length (given plan g i pos n d) ≤ n

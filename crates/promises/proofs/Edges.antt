@@ -18,12 +18,12 @@ use Rattle.header.specs.declared.Decoded.the-variants.{Found}
 use Rattle.header.specs.Block.{decoded}
 use Rattle.header.specs.Block as Block
 use Rattle.path.specs.Path.{samePath}
-use Rattle.path.specs.Theorems.{same-path-sym, same-path-trans}
+use Rattle.path.specs.Theorems.{same-path-refl, same-path-sym, same-path-trans}
 use Rattle.device.specs.declared.Geometry.{Geometry}
 use Rattle.device.specs.Device.{Shape, physOf}
 use Rattle.device.specs.Slots.{partOf}
 use Rattle.device.proofs.Memory.{memory}
-use Rattle.slot_rows.specs.Rows.{at, isBound, pathOf, genOf, lenOf}
+use Rattle.slot_rows.specs.Rows.{at, isBound, pathOf, genOf, lenOf, find}
 use Rattle.dir_rows.specs.Dirs.{Dirs}
 use Rattle.pool_state.specs.State.{State}
 use Rattle.pool_state.specs.declared.Chosen.{Chosen}
@@ -37,13 +37,21 @@ use Rattle.mount_survey.specs.Staged.{spares, wants}
 use Rattle.mount_survey.specs.Survey.{Survey}
 use Rattle.mount_survey.proofs.Surveyed.{scan-free}
 use Rattle.mount.specs.Mount.{installed, drain, emptyState, mountM}
+use Rattle.calls_gate.specs.declared.Call.the-variants.{Mount}
 use Rattle.calls_gate.specs.Table.{chosenOf}
-use Rattle.promises.specs.Demand3.{headerAt, Best, Holds, Rule, surveyed, standing}
-use Rattle.promises.specs.Edges.{Mounting, head, block, Claimless, lends, held, rows, Accepted, Free, P2, P3, front, P8}
-use Rattle.promises.proofs.Free.{short-said}
-use Rattle.promises.proofs.Adopt.{surveyed-is}
-use Rattle.promises.proofs.Mount.{empty-dirs, mount-room, mount-is, mount-rule}
-use Rattle.promises.proofs.Public.{mount-shape, mount-accepted, mount-state}
+use Rattle.calls_gate.specs.Replies.{Came}
+use Rattle.calls_gate.specs.Calls.{callP}
+use Rattle.pool.specs.Face.{lentOf}
+use Rattle.promises_mount.specs.Words.{headerAt, Untouched, Best, Holds, Rule, surveyed, standing}
+use Rattle.promises.specs.Face.{cameOf, deviceOf}
+use Rattle.promises.specs.Demand3.{MountRule}
+use Rattle.promises.specs.Edges.{Mounting, head, block, Claimless, heldAfter, rows, Accepted, Free, FoundAt, P2, P3, front, P8}
+use Rattle.mount_survey.proofs.Staging.{short-said}
+use Rattle.promises_mount.proofs.Adopt.{surveyed-is}
+use Rattle.promises_mount.proofs.Mount.{empty-dirs, from-first, mount-room, mount-is}
+use Rattle.calls_gate.proofs.Inward.{mount-accepted}
+use Rattle.promises.proofs.Face.{as-call}
+use Rattle.promises.proofs.Demand3.{is-fit, state-is, mount-rule}
 
 -- ---- what a header says
 
@@ -120,41 +128,50 @@ module _ (g : Geometry) (plan : List ℕ) (i : ℕ) where
 
 module _ (m : Mounting) where
   abbrev pub g : Geometry
-  g = m .geometry
+  g = m .ask .geometry
 
   -- what is chosen, the pool before the mount, and the inner call
   abbrev pub chosen : Chosen
-  chosen = chosenOf (lends m .bufs)
+  chosen = chosenOf (lentOf (m .ask) .bufs)
 
   abbrev pub w : World
-  w = world (m .dev) (emptyState chosen)
+  w = world (deviceOf (m .ask)) (emptyState chosen)
 
   abbrev pub inner : Outcome None World
-  inner = mountM (m .plan) g chosen (m .k) (m .dev)
+  inner = mountM (m .ask .plan) g chosen (m .k) (deviceOf (m .ask))
+
+  pub all : Untouched (m .ask .plan) 0 (m .k) (deviceOf (m .ask))
+      → Untouched (m .ask .plan) (length (w .state .rows)) (m .k) (deviceOf (m .ask))
+  all = from-first (m .ask .plan) chosen (m .k) (deviceOf (m .ask))
 
   pub no-dirs : Dirs (w .state .dirs)
   no-dirs = empty-dirs chosen
+
+  pub is-call : cameOf (m .left)
+      ≡ callP (m .ask .plan) g (Mount (m .k)) (m .ask .first) (m .ask .second) (m .ask .buf) (lentOf (m .ask))
+  is-call = as-call (m .ask) (m .left) (Mount (m .k)) (m .made) (m .mounts)
 
 module _ (m : Mounting) (D : Accepted m) where
   abbrev H : ℕ → Head
   H = head m
 
-  shape : Shape (g m) (m .dev .bytes) (m .dev .phys)
-  shape = mount-shape (m .plan) (g m) (m .k) (m .first) (m .second) (m .buf) (lends m) (D .answer)
+  shape : Shape (g m) (m .ask .bytes) (m .ask .phys)
+  shape = is-fit (m .ask) (m .k) (m .left) (m .made) (m .mounts) (D .answer) .0
 
   came-zero : inner m .out ≡ 0
-  came-zero = mount-accepted (m .plan) (g m) (m .k) (m .first) (m .second) (m .buf) (lends m) (D .answer)
+  came-zero =
+      mount-accepted (m .ask .plan) (g m) (m .k) (m .ask .first) (m .ask .second) (m .ask .buf) (lentOf (m .ask))
+      (sym (ap (λ (x : Came). x .number) (is-call m)) ∙ D .answer)
 
-  pub state-is : held m ≡ inner m .left .state
-  state-is = mount-state (m .plan) (g m) (m .k) (m .first) (m .second) (m .buf) (lends m) (D .answer)
+  pub after-is : heldAfter m ≡ inner m .left .state
+  after-is = state-is (m .ask) (m .k) (m .left) (m .made) (m .mounts) (D .answer)
 
   pub rule : Rule H (m .k) (rows m)
-  rule =
-      subst (λ (s : State). Rule H (m .k) (s .rows)) (sym state-is)
-      (mount-rule (g m) (m .plan) (chosen m) (m .k) (m .dev) shape (D .reads) came-zero)
+  unfolding MountRule
+  rule = mount-rule (m .ask) (m .k) (m .left) (m .made) (m .mounts) (D .reads) (D .answer) .rule
 
-  slots-there : m .k ≤ length (m .dev .phys)
-  slots-there = mount-room (g m) (m .plan) (chosen m) (m .k) (m .dev) shape (D .reads) came-zero
+  slots-there : m .k ≤ length (m .ask .phys)
+  slots-there = mount-room (g m) (m .ask .plan) (chosen m) (m .k) (deviceOf (m .ask)) shape (D .reads) came-zero
 
   -- a bound slot is the best claim of its path
   bound-best : (i : ℕ) → isBound (at (rows m) i) ≡ true
@@ -235,40 +252,47 @@ module _ (m : Mounting) (D : Accepted m) where
   pub claimless-free : (i : ℕ) → i < m .k → Claimless m i → Free m i
   unfolding standing installed surveyed emptyState
   claimless-free i l c =
-      let z = mount-is (g m) (m .plan) (chosen m) (m .k) (m .dev) shape (D .reads) came-zero in
-      let v = surveyed (m .plan) (g m) (m .k) (w m) in
-      let room : 0 + m .k ≤ length (m .dev .phys) = omega (arith, slots-there) in
-      let same = ap (λ (x : Survey). x .free) (surveyed-is (g m) (m .plan) (m .k) (w m) shape (no-dirs m) (D .reads) room) in
+      let z = mount-is (g m) (m .ask .plan) (chosen m) (m .k) (deviceOf (m .ask)) shape (D .reads) came-zero in
+      let v = surveyed (m .ask .plan) (g m) (m .k) (w m) in
+      let room : 0 + m .k ≤ length (m .ask .phys) = omega (arith, slots-there) in
+      let same = ap (λ (x : Survey). x .free) (surveyed-is (g m) (m .ask .plan) (m .k) (w m) shape (no-dirs m) (all m (D .reads)) room) in
       let q : In i (v .free) =
       subst (In i) (sym (same ∙ scan-free (tab H 0 (m .k)) [] [] 1)) (spare-in H i (no-row (H i) c) (m .k) 0 (omega arith) (omega arith)) in
       record {
         unbound = not-bound i (λ b. c _ _ _ (bound-best i b .claims));
         queued =
-            subst (λ (s : State). In i (s .queue)) (sym (state-is ∙ ap (λ (x : Outcome None World). x .left .state) z))
-            (drain-queue (g m) (m .plan) i (v .losers) (standing (m .plan) (g m) (m .k) (w m)) q);
+            subst (λ (s : State). In i (s .queue)) (sym (after-is ∙ ap (λ (x : Outcome None World). x .left .state) z))
+            (drain-queue (g m) (m .ask .plan) i (v .losers) (standing (m .ask .plan) (g m) (m .k) (w m)) q);
       }
+
+  -- a path that a slot claims is found
+  claimed-found : (i : ℕ) (p : List ℕ) (e l : ℕ) → i < m .k → H i ≡ claim p e l → FoundAt m p
+  claimed-found i p e l a h =
+      let r = rule .claimed p i p e l a h (same-path-refl p) in
+      record { inside = r .4 .among; held = (r .0, r .1, r .2, r .3, rule .holder (find p (rows m)) (r .0) (r .1) (r .2) .1 (r .4)) }
 
   pub p3 : P3 m
   unfolding P3 headerAt
   p3 i h l v u = (
     λ z. claimless-free i l (λ p e n k. idle-no-claim (sym (found-idle (block m i) h v u z) ∙ k)),
-    λ s. found-claim (block m i) h v u s,
+    λ s. claimed-found i _ _ _ l (found-claim (block m i) h v u s),
   )
 
   pub p8 : P8 m
   unfolding P8 headerAt
-  p8 i h l v u s = (λ z. claimless-free i l (λ p e n k. absent-no-claim (sym (short z) ∙ k)), λ z. long z)
+  p8 i h l v u s = (λ z. claimless-free i l (λ p e n k. absent-no-claim (sym (short z) ∙ k)), λ z. claimed-found i _ _ _ l (long z))
     where
       part : List ℕ
-      part = partOf (m .geometry .size) i (m .dev .bytes)
+      part = partOf (m .ask .geometry .size) i (m .ask .bytes)
 
-      short : physOf i (m .dev) ≡ 511 → headOf (block m i) ≡ absent
-      short z = short-said (block m i) (omega (arith, z, length-take (min 512 (physOf i (m .dev))) part))
+      short : physOf i (deviceOf (m .ask)) ≡ 511 → headOf (block m i) ≡ absent
+      short z = short-said (block m i) (omega (arith, z, length-take (min 512 (physOf i (deviceOf (m .ask)))) part))
 
-      long : physOf i (m .dev) ≡ 512 → headOf (block m i) ≡ claim (Block.pathOf (front m i)) (h .generation) (h .len)
+      long : physOf i (deviceOf (m .ask)) ≡ 512 → headOf (block m i) ≡ claim (Block.pathOf (front m i)) (h .generation) (h .len)
       long z =
-          let k : min 512 (physOf i (m .dev)) ≡ 512 = omega arith in
+          let d = deviceOf (m .ask) in
+          let k : min 512 (physOf i d) ≡ 512 = omega arith in
           let same : block m i ≡ front m i = ap (λ (x : ℕ). take x part) k in
           let n : length (front m i) ≡ 512 =
-          ap length (sym same) ∙ memory (m .plan) (m .geometry) .block-length (m .dev) i shape (omega (arith, slots-there)) ∙ k in
+          ap length (sym same) ∙ memory (m .ask .plan) (m .ask .geometry) .block-length d i shape (omega (arith, slots-there)) ∙ k in
           ap headOf same ∙ found-claim (front m i) h (ap (decoded (front m i)) n ∙ v) u s

@@ -1,6 +1,6 @@
--- `FaceIsFlat`, `FaceDecides` and `FaceObeys` of specs/Face.antt. The face's contract is the flat call's up to the lent place, which is
--- the reply's; the rest follows from it, and from what is proved of the inner mount.
-use Prim.Native.Nat.{ℕ, _+_, _*_, _≤_}
+-- `FaceIsFlat` and `FaceDecides` of specs/Face.antt, and a mount and an adoption through the face. The face's contract is the flat call's
+-- up to the lent place, which is the reply's; the rest follows from it, and from what is proved of the inner calls.
+use Prim.Native.Nat.{ℕ, _*_, _≤_}
 use native.Mathlib.Omega.{arith}
 use mathlib.Core.Path.{_≡_, refl, sym, ap, ap₂, _∙_}
 use mathlib.Core.Bool.{true}
@@ -9,31 +9,29 @@ use lib.ListN.{length}
 use borrow.Author.Tests.{eq-eqb, le-leb}
 use Rattle.limits.specs.Limits.{rowWidth}
 use Rattle.device.specs.declared.Place.{Place}
-use Rattle.device.specs.Device.{dev}
+use Rattle.device.specs.declared.Geometry.{Geometry}
+use Rattle.device.specs.Device.{Dev, dev, Shape}
 use Rattle.device.proofs.Shapes.{shape-means}
 use Rattle.slot_records.specs.declared.Slot.{Slot}
 use Rattle.slot_records.specs.Records.{numsOf, slotsOf}
 use Rattle.slot_records.specs.SameNumbers.{slots-nums, length-nums}
 use Rattle.pool_state.specs.declared.Chosen.{Chosen}
 use Rattle.pool_state.specs.State.{bufs, choosing}
-use Rattle.pool_steps.specs.World.{World, Lent, lent, flatW}
+use Rattle.pool_steps.specs.World.{World, Lent, lent, viewW, flatW, Fit, Ready}
 use Rattle.pool_steps.proofs.Stays.{world-is}
 use Rattle.pool_steps.specs.Outcome.{Outcome, None, only, flatO}
 use Rattle.mount.specs.Mount.{mounted, mountM, adoptM}
-use Rattle.mount.proofs.Stays.{mount-valid}
-use Rattle.calls_gate.specs.declared.Call.the-variants.{Adopt}
+use Rattle.calls_gate.specs.declared.Call.{Call}
+use Rattle.calls_gate.specs.declared.Call.the-variants.{Mount, Adopt}
 use Rattle.calls_gate.specs.Table.{takesOf, slotRows, dirRows, rowsB, textIf}
 use Rattle.calls_gate.specs.Replies.{Came, came}
-use Rattle.calls_gate.specs.Calls.{innerM}
+use Rattle.calls_gate.specs.Calls.{innerM, callP}
 use Rattle.calls_gate.specs.Promises.{End}
 use Rattle.calls_gate.proofs.Promises.{one-outcome}
-use Rattle.pool.specs.Face.{Left, lentOf, Entered}
-use Rattle.promises.specs.Demand3.{Trial, emptyTwo, firstPart, both, Given}
-use Rattle.promises.specs.Buffers.{TheCodeObeys}
-use Rattle.promises.specs.Face.{number, leftOf, FaceIsFlat, FaceDecides, Lending, mounting, adopting, flatly, FaceObeys}
-use Rattle.promises.proofs.Theorem.{split-is-one-mount}
-use Rattle.promises.proofs.Buffers.{mounted-left, the-code-obeys}
-use Rattle.promises.proofs.Public.{on-pool, mount-call}
+use Rattle.pool.specs.Face.{Asked, Left, lentOf, Entered}
+use Rattle.promises.specs.Face.{number, devOf, leftOf, held, cameOf, FaceIsFlat, FaceDecides, Lending, asking, askNext}
+use Rattle.calls_gate.proofs.Inward.{on-pool, mount-call}
+use Rattle.promises.proofs.Mounting.{both-fine}
 
 -- ---- the lent place is the reply's
 
@@ -46,6 +44,12 @@ flatAt y p =
 pub face-is-flat : FaceIsFlat
 unfolding FaceIsFlat
 face-is-flat x y e = ap (flatAt y) (e .1) ∙ e .0
+
+-- the same where the call is known
+pub as-call : (x : Asked) (y : Left) (c : Call) → Entered x y → x .call ≡ c
+    → cameOf y ≡ callP (x .plan) (x .geometry) c (x .first) (x .second) (x .buf) (lentOf x)
+unfolding FaceIsFlat
+as-call x y c e k = face-is-flat x y e ∙ ap (λ (a : Call). callP (x .plan) (x .geometry) a (x .first) (x .second) (x .buf) (lentOf x)) k
 
 -- ---- two ends are the same
 
@@ -87,73 +91,86 @@ face-decides x y z e f =
     ∙ ap back (one-outcome (x .plan) (x .geometry) (x .call) (x .first) (x .second) (x .buf) (lentOf x) (end y) (end z) (e .0) (f .0))
     ∙ back-end z (f .1)
 
--- ---- the right slot
+-- ---- a mount and an adoption
 
--- a mount or an adoption tells nothing but its number
+-- they tell nothing but their number
 abbrev settled : Came → Outcome None Lent
 settled c = only (c .number) (c .left)
 
-module _ (t : Trial) (G : Given t) (few : t .chosen .«dir_rows» ≤ 256) where
-  -- lent records and buffers are rows of the right shape
-  module _ (r : Lending t) where
-    slot-count : slotRows (numsOf (r .rows)) ≡ t .chosen .rows
-    slot-count =
-        let n : length (numsOf (r .rows)) ≡ length (r .rows) * rowWidth = length-nums (r .rows) in
-        let c = r .slot-rows in
-        omega (arith, n, c)
+abbrev pub flatly : Left → Outcome None Lent
+flatly y = only (number y) (leftOf y)
 
-    dir-count : dirRows (r .dirs) ≡ t .chosen .«dir_rows»
-    dir-count = let d = r .dir-rows in omega (arith, d)
+-- lent records and buffers are rows of the right shape
+module _ (h : Chosen) (r : Lending h) where
+  slot-count : slotRows (numsOf (r .rows)) ≡ h .rows
+  slot-count =
+      let n : length (numsOf (r .rows)) ≡ length (r .rows) * rowWidth = length-nums (r .rows) in
+      let c = r .slot-rows in
+      omega (arith, n, c)
 
-    -- so they are what the trial chose
-    abbrev lent-rows : Chosen
-    lent-rows = choosing (slotRows (numsOf (r .rows))) (dirRows (r .dirs))
+  dir-count : dirRows (r .dirs) ≡ h .«dir_rows»
+  dir-count = let d = r .dir-rows in omega (arith, d)
 
-    choice : lent-rows ≡ t .chosen
-    choice =
-        let chose : ℕ → ℕ → Chosen = λ a b. choosing a b in
-        ap₂ chose slot-count dir-count
+  -- so they are what was chosen
+  pub choice : choosing (slotRows (numsOf (r .rows))) (dirRows (r .dirs)) ≡ h
+  choice =
+      let chose : ℕ → ℕ → Chosen = λ a b. choosing a b in
+      ap₂ chose slot-count dir-count
 
-    rows-fine : rowsB (numsOf (r .rows)) (r .names) (r .dirs) ≡ true
-    unfolding rowsB
-    rows-fine =
-        let n : length (numsOf (r .rows)) ≡ length (r .rows) * rowWidth = length-nums (r .rows) in
-        let c = r .slot-rows in
-        let s = r .slot-names in
-        let d = r .dir-rows in
-        let h = G .few in
-        let k : length (numsOf (r .rows)) ≡ t .chosen .rows * rowWidth = omega (arith, n, c) in
-        let l = le-leb (t .chosen .«dir_rows») 256 few in
-        rw (slot-count, dir-count, le-leb (t .chosen .rows) 64 h, l, eq-eqb _ _ k, eq-eqb _ _ s, eq-eqb _ _ d) refl
+  pub few-rows : slotRows (numsOf (r .rows)) ≤ 64 → dirRows (r .dirs) ≤ 256 → (h .rows ≤ 64) × (h .«dir_rows» ≤ 256)
+  few-rows a b = (omega (arith, slot-count), omega (arith, dir-count))
 
+  rows-fine : h .rows ≤ 64 → h .«dir_rows» ≤ 256 → rowsB (numsOf (r .rows)) (r .names) (r .dirs) ≡ true
+  unfolding rowsB
+  rows-fine few low =
+      let n : length (numsOf (r .rows)) ≡ length (r .rows) * rowWidth = length-nums (r .rows) in
+      let c = r .slot-rows in
+      let s = r .slot-names in
+      let d = r .dir-rows in
+      let k : length (numsOf (r .rows)) ≡ h .rows * rowWidth = omega (arith, n, c) in
+      let l = le-leb (h .«dir_rows») 256 low in
+      rw (slot-count, dir-count, le-leb (h .rows) 64 few, l, eq-eqb _ _ k, eq-eqb _ _ s, eq-eqb _ _ d) refl
+
+module _ (g : Geometry) (plan : List ℕ) (k : ℕ) where
   -- a mount through the face is the inner one
-  mount-is : (r : Lending t) (plan : List ℕ) (p : Place) (k : ℕ) (y : Left) → Entered (mounting t r plan p k) y
-      → flatly t y ≡ mounted (mountM plan (t .geometry) (t .chosen) k (dev (t .bytes) (t .phys) p))
+  pub mount-is : (h : Chosen) → h .rows ≤ 64 → h .«dir_rows» ≤ 256 → (r : Lending h) (d : Dev) → Shape g (d .bytes) (d .phys)
+      → (y : Left) → Entered (asking g d plan r (Mount k)) y → flatly y ≡ mounted (mountM plan g h k d)
   unfolding FaceIsFlat
-  mount-is r plan p k y e =
-      let x = mounting t r plan p k in
-      let shape = shape-means (t .geometry) (t .bytes) (t .phys) .1 (G .shape) in
-      let m = mount-call plan (t .geometry) k (x .first) (x .second) (x .buf) (lentOf x) shape (rows-fine r) in
-      ap settled (face-is-flat x y e ∙ m)
-      ∙ ap (λ (c : Chosen). mounted (mountM plan (t .geometry) c k (dev (t .bytes) (t .phys) p))) (choice r)
+  mount-is h few low r d s y e =
+      let x = asking g d plan r (Mount k) in
+      let shape = shape-means g (d .bytes) (d .phys) .1 s in
+      let m = mount-call plan g k (x .first) (x .second) (x .buf) (lentOf x) (both-fine g (lentOf x) shape (rows-fine h r few low)) in
+      ap settled (face-is-flat x y e ∙ m) ∙ ap (λ (c : Chosen). mounted (mountM plan g c k d)) (choice h r)
 
-  -- and the adoption behind it is the inner adoption
-  adopt-is : (s : Lending t) (two three : Left) → flatly t two ≡ mounted (firstPart t)
-      → Entered (adopting t s (t .planTwo) (t .m) two) three → flatly t three ≡ flatO (both t)
+  -- an adoption into what the buffers hold is the inner one
+  pub adopt-is : (first second buf : List ℕ) (y z : Left) (w : World) → viewW (leftOf y) ≡ w → Ready g (leftOf y)
+      → Entered (askNext g plan (Adopt k) first second buf y) z → flatly z ≡ flatO (adoptM plan g k w)
   unfolding FaceIsFlat takesOf textIf innerM
-  adopt-is s two three e f =
-      let z = split-is-one-mount t G .part-accepted in
-      let l : leftOf two ≡ flatW (firstPart t .left) = ap (λ (x : Outcome None Lent). x .left) e ∙ mounted-left (firstPart t) z in
-      let P = mount-valid (t .planTwo) (t .geometry) (t .chosen) (t .n) (emptyTwo t .dev) (G .shape) (G .few) few in
-      let w = world-is (t .geometry) (firstPart t .left) (leftOf two) P l in
-      let x = adopting t s (t .planTwo) (t .m) two in
-      let i = on-pool (t .planTwo) (t .geometry) (Adopt (t .m)) (x .first) (x .second) (x .buf) (leftOf two) (w .1) refl refl refl in
-      ap settled (face-is-flat x three f ∙ i)
-      ∙ ap (λ (x : World). flatO (adoptM (t .planTwo) (t .geometry) (t .m) x)) (w .0)
+  adopt-is first second buf y z w v R e =
+      let x = askNext g plan (Adopt k) first second buf y in
+      let i = on-pool plan g (Adopt k) first second buf (leftOf y) R refl refl refl in
+      ap settled (face-is-flat x z e ∙ i) ∙ ap (λ (u : World). flatO (adoptM plan g k u)) v
 
-pub face-obeys : (t : Trial) → FaceObeys t
-unfolding FaceObeys TheCodeObeys
-face-obeys t G few r s one two three e f h =
-    let a = mount-is t G few r (t .planOne) (t .here) (t .n + t .m) one e in
-    let b = mount-is t G few s (t .planTwo) (t .there) (t .n) two f in
-    the-code-obeys t G few (flatly t one) (flatly t three) a (adopt-is t G few s two three b h)
+-- an end that is what a call came to, where that is 0: its number, the pool and the device
+module _ (g : Geometry) (c : Outcome None World) (F : Fit g (c .left)) (z : c .out ≡ 0) (y : Left) (e : flatly y ≡ flatO c) where
+  pub end-done : number y ≡ 0
+  unfolding flatO
+  end-done = ap (λ (x : Outcome None Lent). x .out) e ∙ z
+
+  end-left : leftOf y ≡ flatW (c .left)
+  unfolding flatO
+  end-left = ap (λ (x : Outcome None Lent). x .left) e
+
+  pub end-world : viewW (leftOf y) ≡ c .left
+  end-world = world-is g (c .left) (leftOf y) F end-left .0
+
+  pub end-ready : Ready g (leftOf y)
+  end-ready = world-is g (c .left) (leftOf y) F end-left .1
+
+  pub end-state : held y ≡ c .left .state
+  unfolding viewW
+  end-state = ap (λ (w : World). w .state) end-world
+
+  pub end-dev : devOf y ≡ c .left .dev
+  unfolding viewW
+  end-dev = ap (λ (w : World). w .dev) end-world

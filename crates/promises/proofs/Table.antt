@@ -1,15 +1,14 @@
 -- P6 and P7, which go by the counter that the survey came to (Surveys), what a blank device gives, and the table: all its rows together.
 use Prim.Native.Nat.{ℕ, suc, _+_, _≤_, _<_, _^_}
 use native.Mathlib.Omega.{arith}
-use mathlib.Core.Path.{_≡_, refl, sym, ap, _∙_}
+use mathlib.Core.Path.{_≡_, refl, sym, ap, subst, _∙_}
 use mathlib.Core.Bool.{Bool, true, false, cond}
 use mathlib.Core.List.{List, [], _∷_, List·Memᴰ·head, List·Memᴰ·not-nil}
 use lib.Dec.{ltb}
 use lib.ListN.{length}
 use borrow.Author.Tests.{lt-ltb, le-ltb}
-use Rattle.limits.specs.Limits.{maxPath, lastCounter}
+use Rattle.limits.specs.Limits.{lastCounter}
 use Rattle.lists.specs.Distinct.{In}
-use Rattle.text.specs.Text.{isText}
 use Rattle.header.specs.declared.Header.{Header}
 use Rattle.header.specs.declared.Decoded.the-variants.{Found}
 use Rattle.path.specs.Path.{ancestors}
@@ -19,7 +18,7 @@ use Rattle.dir_rows.specs.Dirs.{registered}
 use Rattle.dir_rows.proofs.Joined.{absent-few}
 use Rattle.dir_rows.proofs.Registering.{length-registered}
 use Rattle.pool_state.specs.State.{State}
-use Rattle.pool_steps.specs.World.{World}
+use Rattle.pool_steps.specs.World.{World, Ready}
 use Rattle.mount_survey.specs.Heads.{absent, claim}
 use Rattle.mount_survey.specs.Staged.{wants}
 use Rattle.mount_survey.specs.Survey.{Survey}
@@ -27,58 +26,64 @@ use Rattle.pool_steps.specs.Outcome.{Outcome, None, only}
 use Rattle.mount.specs.Mount.{installed, drain, moved, emptyState, mountM}
 use Rattle.mount.specs.Mount as Mount
 use Rattle.inner_open.specs.Files.{isFile}
-use Rattle.calls_gate.specs.declared.Call.the-variants.{OpenWrite}
-use Rattle.calls_gate.specs.Table.{opening, dirRows}
+use Rattle.calls_gate.specs.Table.{dirRows}
 use Rattle.calls_gate.specs.Replies as replies
-use Rattle.calls_gate.specs.Calls.{callP}
-use Rattle.promises.specs.Demand3.{headerAt, Untouched, Registered, reading, surveyed, standing}
-use Rattle.promises.specs.Edges.{Setting, Mounting, head, block, valid, Claimless, lends, mount, held, rows, Accepted, HasRoom}
-use Rattle.promises.specs.Edges.{Apart, P6, P7, TableP, FromBlank, P1}
-use Rattle.promises.proofs.Adopt.{not-many, settled}
-use Rattle.promises.proofs.Surveys.{Counts, first-counts, first-dirs, first-losers}
-use Rattle.promises.proofs.Public.{mount-call, mount-ready}
+use Rattle.promises_mount.specs.Words.{headerAt, Registered, reading, surveyed, standing}
+use Rattle.pool.specs.Face.{Asked, Left, lentOf}
+use Rattle.promises.specs.Face.{number, leftOf, deviceOf}
+use Rattle.promises.specs.Demand3.{MountRule}
+use Rattle.promises.specs.Edges.{Setting, state, Mounting, head, block, valid, Claimless, heldAfter, rows, Accepted, NewFile, HasRoom}
+use Rattle.promises.specs.Edges.{Spared, Apart, NextOpen, P6, P7, TableP, FromBlank, P1}
+use Rattle.promises_mount.proofs.Adopt.{not-many, settled}
+use Rattle.promises_mount.proofs.Surveys.{Counts, first-counts, first-dirs, first-losers}
+use Rattle.calls_gate.proofs.Inward.{mount-call}
+use Rattle.promises.proofs.Mounting.{both-fine}
+use Rattle.promises.proofs.Demand3.{mount-rule}
+use Rattle.promises.proofs.Stays.{follows-ready, follows-state}
 use Rattle.promises.proofs.Calls.{open-nine, p1, p4, p5}
-use Rattle.promises.proofs.Edges.{absent-no-claim, found-wants, g, chosen, w, inner, no-dirs, state-is, rule}
+use Rattle.promises.proofs.Edges.{absent-no-claim, found-wants, g, chosen, w, inner, all, no-dirs, is-call, after-is, rule}
 use Rattle.promises.proofs.Edges.{claimless-free, p2, p3, p8}
 
 -- ---- P6, P7
 
 module _ (m : Mounting) (R : HasRoom m) where
   abbrev v : Survey
-  v = surveyed (m .plan) (g m) (m .k) (w m)
+  v = surveyed (m .ask .plan) (g m) (m .k) (w m)
 
   abbrev spent : Bool
   spent = ltb lastCounter (v .counter + length (v .losers))
 
   abbrev moves : World
-  moves = moved (reading (m .plan) (g m) (m .k) (w m) .place) (w m)
+  moves = moved (reading (m .ask .plan) (g m) (m .k) (w m) .place) (w m)
 
   abbrev done : World
-  done = drain (m .plan) (g m) (v .losers) (standing (m .plan) (g m) (m .k) (w m))
+  done = drain (m .ask .plan) (g m) (v .losers) (standing (m .ask .plan) (g m) (m .k) (w m))
 
   -- the directories that it found are the ancestors of the claims
   claims : Registered (head m) (m .k) (v .dirs)
-  claims = first-dirs (g m) (m .plan) (chosen m) (m .k) (m .dev) (R .shape) (R .reads) (R .slots .1)
+  claims = first-dirs (g m) (m .ask .plan) (chosen m) (m .k) (deviceOf (m .ask)) (R .shape) (R .reads) (R .slots .1)
 
   -- 2, 12, 10 and 8 are not given
   inner-is : inner m ≡ cond spent (only 9 moves) (only 0 done)
   unfolding mountM emptyState
   inner-is =
-      let room : 0 + m .k ≤ length (m .dev .phys) = omega (arith, R .slots .1) in
-      let dirs : ltb (dirRows (m .dirs)) (length (v .dirs)) ≡ false =
-      le-ltb (dirRows (m .dirs)) (length (v .dirs)) (R .dirs (v .dirs) claims) in
-      settled (g m) (m .plan) (m .k) (w m) (R .shape) (no-dirs m) (R .reads) room
-      (not-many (g m) (m .plan) (m .k) (w m) (R .shape) (no-dirs m) (R .reads) (omega (arith, R .slots .0)) room)
+      let room : 0 + m .k ≤ length (m .ask .phys) = omega (arith, R .slots .1) in
+      let dirs : ltb (dirRows (m .ask .dirs)) (length (v .dirs)) ≡ false =
+      le-ltb (dirRows (m .ask .dirs)) (length (v .dirs)) (R .dirs (v .dirs) claims) in
+      settled (g m) (m .ask .plan) (m .k) (w m) (R .shape) (no-dirs m) (all m (R .reads)) room
+      (not-many (g m) (m .ask .plan) (m .k) (w m) (R .shape) (no-dirs m) (all m (R .reads)) (omega (arith, R .slots .0)) room)
       ∙ rw dirs
 
-  out-is : mount m .number ≡ inner m .out
+  out-is : number (m .left) ≡ inner m .out
   unfolding Mount.mounted
   out-is =
-      let s = shape-means (g m) (m .dev .bytes) (m .dev .phys) .1 (R .shape) in
-      ap (λ (x : replies.Came). x .number) (mount-call (m .plan) (g m) (m .k) (m .first) (m .second) (m .buf) (lends m) s (R .lent))
+      let x = m .ask in
+      let s = shape-means (g m) (x .bytes) (x .phys) .1 (R .shape) in
+      ap (λ (a : replies.Came). a .number)
+      (is-call m ∙ mount-call (x .plan) (g m) (m .k) (x .first) (x .second) (x .buf) (lentOf x) (both-fine (g m) (lentOf x) s (R .lent)))
 
   counts : Counts (head m) 0 (m .k) 1 (v .counter)
-  counts = first-counts (g m) (m .plan) (chosen m) (m .k) (m .dev) (R .shape) (R .reads) (R .slots .1)
+  counts = first-counts (g m) (m .ask .plan) (chosen m) (m .k) (deviceOf (m .ask)) (R .shape) (R .reads) (R .slots .1)
 
   -- the counter exceeds a valid header's generation
   exceeds : (i : ℕ) (h : Header) → i < m .k → valid m i ≡ Found h → suc (h .generation) ≤ v .counter
@@ -92,55 +97,66 @@ module _ (m : Mounting) (R : HasRoom m) where
         let y : spent ≡ false = le-ltb lastCounter (v .counter + length (v .losers)) (omega (arith, ap length lost)) in
         inner-is ∙ rw y
 
-    mounts : mount m .number ≡ 0
+    mounts : number (m .left) ≡ 0
     mounts = out-is ∙ ap (λ (x : Outcome None World). x .out) accepts
 
     D : Accepted m
     D = record { reads = R .reads; answer = mounts }
 
-    after-is : held m ≡ installed (w m .state) v
+    state-after : heldAfter m ≡ installed (w m .state) v
     unfolding drain standing
-    after-is =
-        state-is m D ∙ ap (λ (x : Outcome None World). x .left .state) accepts
-        ∙ ap (λ (ls : List ℕ). drain (m .plan) (g m) ls (standing (m .plan) (g m) (m .k) (w m)) .state) lost
+    state-after =
+        after-is m D ∙ ap (λ (x : Outcome None World). x .left .state) accepts
+        ∙ ap (λ (ls : List ℕ). drain (m .ask .plan) (g m) ls (standing (m .ask .plan) (g m) (m .k) (w m)) .state) lost
 
-    counter-is : held m .counter ≡ v .counter
+    counter-is : heldAfter m .counter ≡ v .counter
     unfolding installed
-    counter-is = ap (λ (s : State). s .counter) after-is
+    counter-is = ap (λ (s : State). s .counter) state-after
 
     -- a slot that claims nothing is in the queue
-    some-free : (j : ℕ) → j < m .k → Claimless m j → 0 < length (held m .queue)
-    some-free j b c = go (held m .queue) (claimless-free m D j b c .queued)
+    some-free : (j : ℕ) → j < m .k → Claimless m j → 0 < length (heldAfter m .queue)
+    some-free j b c = go (heldAfter m .queue) (claimless-free m D j b c .queued)
       where
         go : (q : List ℕ) → In j q → 0 < length q
         go [] n = absurd (List·Memᴰ·not-nil n)
         go (x ∷ q) n = omega arith
 
-    -- the next call
-    abbrev setting : List ℕ → List ℕ → List ℕ → Setting
-    setting plan second buf =
-        record {
-          plan = plan;
-          geometry = g m;
-          lent = mount m .left;
-          ready = mount-ready (m .plan) (g m) (m .k) (m .first) (m .second) (m .buf) (lends m) mounts;
-          first = [];
-          second = second;
-          buf = buf;
-        }
+    ready-after : Ready (g m) (leftOf (m .left))
+    unfolding MountRule
+    ready-after = mount-rule (m .ask) (m .k) (m .left) (m .made) (m .mounts) (R .reads) mounts .ready
+
+    -- the next call, an open
+    module _ (ask : Asked) (left : Left) (N : NextOpen m ask left) where
+      abbrev setting : Setting
+      setting =
+          record {
+            ask = ask;
+            ready = follows-ready (m .ask) (m .left) ask (N .follows) ready-after;
+            left = left;
+            made = N .made;
+          }
+
+      -- it finds what the mount left
+      finds : state setting ≡ heldAfter m
+      finds = follows-state (m .ask) (m .left) ask (N .follows)
 
   none-lost : Apart m → v .losers ≡ []
-  none-lost = first-losers (g m) (m .plan) (chosen m) (m .k) (m .dev) (R .shape) (R .reads) (R .slots .1)
+  none-lost = first-losers (g m) (m .ask .plan) (chosen m) (m .k) (deviceOf (m .ask)) (R .shape) (R .reads) (R .slots .1)
 
   p6 : P6 m
   unfolding P6
   p6 i h l e top most apart =
       let lost = none-lost apart in
-      let c : v .counter ≡ lastCounter = omega (arith, exceeds i h l e, counts .most lastCounter (omega arith) (λ j a b. most j (omega arith))) in
+      let c : v .counter ≡ lastCounter =
+      omega (arith, exceeds i h l e, counts .most lastCounter (omega arith) (λ j a b. most j (omega arith))) in
       let low : v .counter ≤ lastCounter = omega arith in (
         mounts lost low,
-        λ plan path second buf keep j short N b free.
-            open-nine (setting lost low plan second buf) path keep short N (some-free lost low j b free) (counter-is lost low ∙ c),
+        λ ask left j N F b free.
+            let s = setting lost low ask left N in
+            let e = finds lost low ask left N in
+            open-nine s (N .keep) (N .opens) (N .short) F
+            (subst (λ (x : State). 0 < length (x .queue)) (sym e) (some-free lost low j b free))
+            (ap (λ (x : State). x .counter) e ∙ counter-is lost low ∙ c),
       )
 
   p7 : P7 m
@@ -176,30 +192,34 @@ module _ (m : Mounting) (R : HasRoom m) where
         go [] f = refl
         go (d ∷ ds) f = let r = f d (List·Memᴰ·head refl) in absurd (claimless (r .0) (r .4) (r .1) (r .2) (r .3) (r .5))
 
-    fits : (path : List ℕ) → length (ancestors path) ≤ dirRows (m .dirs)
-        → length (registered (held m .dirs) path) ≤ held m .chosen .«dir_rows»
+    fits : (path : List ℕ) → length (ancestors path) ≤ dirRows (m .ask .dirs)
+        → length (registered (heldAfter m .dirs) path) ≤ heldAfter m .chosen .«dir_rows»
     unfolding installed emptyState
     fits path h =
-        let d : held m .dirs ≡ [] = ap (λ (s : State). s .dirs) (after-is lost low) ∙ no-dir in
-        let c : held m .chosen .«dir_rows» ≡ dirRows (m .dirs) = ap (λ (s : State). s .chosen .«dir_rows») (after-is lost low) in
+        let d : heldAfter m .dirs ≡ [] = ap (λ (s : State). s .dirs) (state-after lost low) ∙ no-dir in
+        let c : heldAfter m .chosen .«dir_rows» ≡ dirRows (m .ask .dirs) =
+        ap (λ (s : State). s .chosen .«dir_rows») (state-after lost low) in
         let n = ap (λ (ds : List (List ℕ)). length (registered ds path)) d in
         omega (arith, n, c, length-registered [] path, absent-few [] (ancestors path))
 
-    not-there : (path : List ℕ) → isFile path (held m) ≡ false
+    not-there : (path : List ℕ) → isFile path (heldAfter m) ≡ false
     not-there path =
         let r = rule m (D lost low) in
         le-ltb (find path (rows m)) (length (rows m))
         (omega (arith, r .size, r .unclaimed path (λ j q f n l h. absurd (claimless j l q f n h))))
 
-    blank-opens : (plan path second buf : List ℕ) (keep : Bool) → isText path ≡ true → length path ≤ maxPath
-        → length (ancestors path) ≤ dirRows (m .dirs)
-        → Untouched plan 1 (mount m .left .dev .place) → callP plan (g m) (OpenWrite (opening keep)) path second buf (mount m .left) .number ≡ 0
+    blank-opens : (ask : Asked) (left : Left) → NextOpen m ask left → length (ancestors (ask .first)) ≤ dirRows (m .ask .dirs)
+        → Spared (ask .plan) (ask .at) → number left ≡ 0
     unfolding P1
-    blank-opens plan path second buf keep t short h calm =
-        p1 (setting lost low plan second buf) path keep .0 short (record { text = t; new = not-there path; dirs = fits path h })
+    blank-opens ask left N h calm =
+        let s = setting lost low ask left N in
+        let e = finds lost low ask left N in
+        let path = ask .first in
+        p1 s (N .keep) (N .opens) .0 (N .short)
+        (subst (NewFile path) (sym e) (record { text = N .text; new = not-there path; dirs = fits path h }))
         (record {
-          free = some-free lost low 0 some (claimless 0 some);
-          left = omega (arith, counter-is lost low, counter-one);
+          free = subst (λ (x : State). 0 < length (x .queue)) (sym e) (some-free lost low 0 some (claimless 0 some));
+          left = omega (arith, ap (λ (x : State). x .counter) e, counter-is lost low, counter-one);
           calm = calm;
         })
         .answer

@@ -10,7 +10,6 @@ use lib.Dec.{eqb, ltb}
 use lib.ListN.{length, getD, take, replicate, length-append, length-replicate, length-take, List·getD-eq-default}
 use borrow.Author.Tests.{ltb-false, le-ltb, ne-eqb}
 use Rattle.lists.specs.Runs.{range}
-use Rattle.header.proofs.BlockLaws.{short-absent}
 use Rattle.device.specs.declared.Place.{Place}
 use Rattle.device.specs.declared.Geometry.{Geometry}
 use Rattle.device.specs.Device.{Dev, dev, Shape, shapeB, turn, onward, given, seen}
@@ -23,7 +22,8 @@ use Rattle.pool_state.specs.declared.Chosen.{Chosen}
 use Rattle.pool_state.specs.State.{State}
 use Rattle.pool_steps.specs.World.{World, world, Lent, viewW}
 use Rattle.pool_steps.specs.Outcome.{Outcome, None, only}
-use Rattle.mount_survey.specs.Heads.{Head, absent, saidOf, headOf, Reads, behind, looked, readsM}
+use Rattle.mount_survey.proofs.Staging.{short-said}
+use Rattle.mount_survey.specs.Heads.{Head, absent, headOf, Reads, behind, looked, readsM}
 use Rattle.mount_survey.specs.Survey.{Survey, survey, step, scan}
 use Rattle.mount.specs.Mount.{begin, installed, drain, moved, settle, afterReads, tooMany, adoptM, emptyState, mountM, mounted}
 use Rattle.mount.proofs.Stays.{room-for}
@@ -37,10 +37,6 @@ use Rattle.calls_gate.proofs.Inward.{mount-call, mount-fits, mount-accepted, mo
 use Rattle.promises_calls.proofs.Refusals.{reads-place}
 
 -- ---- what is read
-
-short-said : (bs : List ℕ) → length bs < 512 → headOf bs ≡ absent
-unfolding headOf
-short-said bs h = ap (saidOf bs) (short-absent bs (length bs) h)
 
 module _ (plan : List ℕ) (g : Geometry) where
   -- A read of a blank slot says nothing: a whole one is the block, and one cut short is too short for a header.

@@ -1,0 +1,6 @@
+-- Each example, computed.
+
+-- Demand 3: two claims of one path, and a release that fails.
+pub mod TwoClaims
+-- Table P: P1, P6 and P7.
+pub mod Edges
