@@ -2,3 +2,5 @@
 
 -- What the program keeps from line to line.
 pub mod Slots
+-- No answer is longer than the room that is kept for it.
+pub mod Room

@@ -10,9 +10,11 @@ use pool_state::Pool;
 ghost use mathlib.Core.Path.{_≡_};
 ghost use Prim.Native.Nat.{_+_, _-_, _≤_, _<_, min};
 ghost use lib.ListN.{length, take};
+ghost use Rattle.pool_steps.specs.World.{before};
 ghost use Rattle.slots.specs.Slots.{InBuffers, extended};
+ghost use Rattle.slots.specs.Room.{RoomAt, AnswerWaits};
 
-// No answer is longer: a dump has at most 4 files and 8 directories.
+// No answer is longer (`answers-fit`): a dump has at most 4 files and 8 directories.
 const ROOM: usize = 8192;
 
 // What goes on from line to line: the place and the record of the pool, how many bytes of a line are held, how many bytes of answers wait,
@@ -225,7 +227,8 @@ fn least(a: usize, b: usize) -> usize
     if a <= b { a } else { b }
 }
 
-// Answers the line that is held.
+// Answers the line that is held. Of four slot rows and eight directory rows, and with a buffer that has room for an answer, the answer is
+// not cut.
 fn reply(
     bytes: &mut [u8],
     phys: &mut [u64],
@@ -237,7 +240,10 @@ fn reply(
     out: &mut [u8],
 ) -> Progress
     requires { ⌜ InBuffers (length (now line)) (length (now out)) run ⌝ }
-    ensures { λ r. ⌜ InBuffers (length (now (line .entry))) (length (now (out .exit))) r × (r .at ≡ run .at) ⌝ }
+    ensures within { λ r. ⌜ InBuffers (length (now (line .entry))) (length (now (out .exit))) r × (r .at ≡ run .at) ⌝ }
+    ensures whole { λ r. ⌜
+        AnswerWaits (take (run .held) (now (line .entry))) (before bytes phys (run .place) nums names dirs (run .pool))
+        (length (now (out .entry))) (now (out .exit)) (r .used) ⌝ }
 {
     let held = run.held;
     let place = run.place;
@@ -268,7 +274,8 @@ fn reply(
 // Where the next answer goes: behind those that wait, which are written first where it might not fit behind them.
 fn make_room(out: &[u8], used: usize) -> usize
     requires { ⌜ used ≤ length (now out) ⌝ }
-    ensures { λ r. ⌜ r ≤ length (now (out .entry)) ⌝ }
+    ensures within { λ r. ⌜ r ≤ length (now (out .entry)) ⌝ }
+    ensures room { λ r. ⌜ RoomAt (length (now (out .entry))) r ⌝ }
 {
     if ROOM <= out.len() - used {
         return used;

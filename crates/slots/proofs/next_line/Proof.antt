@@ -92,7 +92,7 @@ returns-2 c =
     let at-reply = after-reply .before .before .before .before .before in
     let after-run-end = at-reply .before .before .before .before .before .before .before in
     let at-run-end = after-run-end .before .before .before .before .before .before .before in
-    (at-reply .reply .ensures .0, omega (arith, at-reply .reply .ensures .1, at-run-end .run-end .ensures))
+    (at-reply .reply .ensures .0 .0, omega (arith, at-reply .reply .ensures .0 .1, at-run-end .run-end .ensures))
 
 pub next-line-spec : {M : Type 1} → statement M
 next-line-spec =

@@ -1,7 +1,18 @@
--- The line that is held lies in the buffer.
-use mathlib.Core.Path.{sym}
+-- The line that is held lies in the buffer. The answer is short enough for the room that was made (`answers-fit`), so it lies there whole:
+-- `uncut`.
+use Prim.Native.Nat.{ℕ}
+use mathlib.Core.Path.{refl, sym, ap}
+use mathlib.Core.List.{List}
+use native.Mathlib.Omega.{arith}
+use lib.ListN.{take}
 use lib.Seq.{length-take-le}
 use borrow.Author.Needs.{needs}
+use Rattle.device.specs.Device.{dev}
+use Rattle.pool_state.specs.State.{Bufs, bufs}
+use Rattle.pool_steps.specs.World.{Lent, lent}
+use Rattle.line.specs.Lines.{Printed, prints, lineT}
+use Rattle.slots.specs.Room.{answers-fit}
+use Rattle.slots.proofs.Uncut.{uncut}
 use Rattle.slots.proofs.reply.Statement.{statement}
 use Rattle.slots.proofs.reply.Tie as tie
 
@@ -64,7 +75,23 @@ same-length-6 : tie.Need-same-length-6
 same-length-6 c = search needs
 
 returns : tie.Need-returns
-returns c = search needs
+unfolding prints
+returns c =
+    let after-answer-line-2 = c .before .before .before .before .before .before .before .before in
+    let after-answer-line = after-answer-line-2 .before .before .before .before .before .before .before .before in
+    let after-room = after-answer-line .before .before .before .before .before .before .before .before in
+    let start = let at-fields = after-room .before .before .before .before in
+    at-fields .before .before .before .before .before .before .before in
+    let a = start .args in
+    let at : ℕ = after-room .make-room .result in
+    let b : Bufs = bufs (a .run .pool) (a .nums .now) (a .names .now) (a .dirs .now) in
+    let l : Lent = lent (dev (a .bytes .now) (a .phys .now) (a .run .place)) b in
+    let line : List ℕ = take (a .run .held) (a .line .now) in (
+      (record { held = omega arith; used = omega (arith, c .reach .ensures, same-length-6 c, after-room .make-room .ensures .0) }, refl),
+      λ k room. uncut (a .out .now) (lineT line l .text) at (after-room .make-room .ensures .0)
+          (omega (arith, answers-fit line l k, after-room .make-room .ensures .1 room))
+          (ap (λ (p : Printed). p .shown) (after-answer-line .answer-line .ensures)) (c .reach .ensures),
+    )
 
 pub reply-spec : {M : Type 1} → statement M
 reply-spec =
