@@ -1,6 +1,7 @@
-// Runs the published vectors of 32-bit FNV-1a, and a header there and back, and prints of each
-// whether it came out as it should: `ok`, or both values where they differ. The vectors are those
-// of the FNV authors' test suite. The header's bytes were worked out by another program.
+// Runs the published vectors of 32-bit FNV-1a, a header there and back, and blocks with one fault
+// each, and prints of each whether it came out as it should: `ok`, or both values where they differ.
+// The vectors are those of the FNV authors' test suite. The headers' bytes were worked out by
+// another program.
 use header::Decoded;
 use header::Header;
 use libc::STDOUT_FILENO;
@@ -12,7 +13,9 @@ fn main() {
     parts();
     encoding();
     flags();
+    longest();
     refusals();
+    behind();
 }
 
 // The published vectors over words.
@@ -72,33 +75,84 @@ fn encoding() {
 
 // Bit 0 of the flags alone says in use. The checks were worked out as the bytes above.
 fn flags() {
-    answer(b"flags 3", flagged(3, 0xf25d_6e36), 1);
-    answer(b"flags 2", flagged(2, 0xbc46_325d), 0);
+    answer(b"flags 3", changed(4, 3, 0xf25d_6e36), 1);
+    answer(b"flags 2", changed(4, 2, 0xbc46_325d), 0);
 }
 
-// Each reason for which a block says nothing, in the order of the tests.
+// The longest path: a/b and zeros, which are text, up to the block's end.
+fn longest() {
+    let h = Header::decode(changed(8, 480, 0x9e70_70a4), 512);
+    let Decoded::Found(h) = h else {
+        say(b"path length 480: differs: absent\n");
+        return;
+    };
+    number(b"path length 480", h.path_len as u64, 480);
+}
+
+// Each reason for which a block says nothing, in the order of the tests. The check is worked out
+// for the changed bytes, so that a block has no fault but the one that it is named after; another
+// path stands under the check of a/b.
 fn refusals() {
     absent(b"511 bytes read", header_of(b"a/b"), 511);
-    absent(b"another magic", changed(0, 0), 512);
-    absent(b"path length 481", changed(8, 481), 512);
-    absent(b"another path", changed(32, 0), 512);
+    absent(b"another magic", changed(0, 0, 0x2b06_fc25), 512);
+    absent(b"path length 481", changed(8, 481, 0xc43a_3ecd), 512);
+    absent(b"another path", changed(32, 0, 0x6cab_19c4), 512);
     absent(b"no text", header_of(b"\xff"), 512);
 }
 
-// The block of `a/b` with these flags and this check.
-fn flagged(flags: u64, check: u64) -> [u8; 512] {
-    let mut block = header_of(b"a/b");
-    le::put_at(&mut block, 4, 4, flags);
+// A path of 481 bytes ends behind the block. Whatever byte lies there, a block whose check takes it
+// in says nothing. A text ends in a byte below 192, and in one from 128 on only behind a first byte.
+fn behind() {
+    let mut found = 0u64;
+    let mut b = 0u8;
+    while b < 192 {
+        found = std::num::wrapping_add_u64(found, says(long(b)));
+        b += 1;
+    }
+    number(b"path length 481 with any byte behind the block", found, 0);
+}
+
+// The block of a path that begins with a/b and ends in a byte behind the block.
+fn long(last: u8) -> [u8; 512] {
+    let mut block = begun(last);
+    le::put_at(&mut block, 8, 4, 481);
+    let check = check_of(block, last);
     le::put_at(&mut block, 28, 4, check);
     block
 }
 
-// The block of `a/b` with another number in the four bytes from `at` on.
-fn changed(at: usize, x: u64) -> [u8; 512]
+// The check of a block whose path goes one byte past it.
+fn check_of(block: [u8; 512], last: u8) -> u64 {
+    let part = fnv::fnv1a32(fnv::START, &block[0..28]);
+    let most = fnv::fnv1a32(part, &block[32..]);
+    fnv::fnv1a32(most, &[last; 1]) as u64
+}
+
+// The block of a/b, with a first byte at its end where the byte behind it is a second one.
+fn begun(last: u8) -> [u8; 512] {
+    let mut block = header_of(b"a/b");
+    if last > 127 {
+        block[511] = 0xc3;
+    }
+    block
+}
+
+// 1 if a block says something, else 0.
+fn says(block: [u8; 512]) -> u64 {
+    let d = Header::decode(block, 512);
+    match d {
+        Decoded::Absent => 0,
+        Decoded::Found(h) => 1,
+    }
+}
+
+// The block of `a/b` with another number in the four bytes from `at` on, and this check.
+fn changed(at: usize, x: u64, check: u64) -> [u8; 512]
     requires { ⌜ at ≤ 508 ⌝ }
 {
     let mut block = header_of(b"a/b");
     le::put_at(&mut block, at, 4, x);
+    le::put_at(&mut block, 28, 4, check);
     block
 }
 
