@@ -8,6 +8,7 @@ use Rattle.promises_calls.proofs.Synced.{what-was-synced-is-found}
 use Rattle.promises_handles.proofs.HandleCalls.{stale-gets-six, opens-give}
 use Rattle.promises_handles.proofs.Theorems.{reopen-keeps, remove-makes-stale, rename-makes-stale, done-rename-has-put, failed-rename-keeps}
 use Rattle.promises_handles.proofs.Theorems.{stale-stays, stale-for-good}
+use Rattle.promises_mount.proofs.Adopt.{untouched-exactly}
 use Rattle.promises.specs.Promises.{Promises}
 use Rattle.promises.proofs.Face.{face-is-flat, face-decides}
 use Rattle.promises.proofs.Total.{every-call-ends}
@@ -21,6 +22,7 @@ promises = record {
   the-cleaned-tile-wins = the-cleaned-tile-wins;
   mount-rule = mount-rule;
   demand-3 = demand-3;
+  untouched-exactly = untouched-exactly;
   faultless-is-quiet = faultless-is-quiet;
   table-p = table-p;
   from-blank = from-blank;

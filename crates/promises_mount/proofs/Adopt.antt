@@ -1,6 +1,6 @@
 -- Mount and adopt of a real pool are the model's where no header read fails or is cut short (`accepted-runs`), and one that came to 0 is
 -- one that the model accepts (`came-accepts`). The reads carry it: each gives the slot's block, and only the plan's place moves.
-use Prim.Native.Nat.{ℕ, zero, suc, _+_, _-_, _^_, _≤_, _<_, min}
+use Prim.Native.Nat.{ℕ, zero, suc, _+_, _-_, _*_, _/_, _^_, _≤_, _<_, min}
 use native.Mathlib.Nat.{add-zero}
 use native.Mathlib.Omega.{arith}
 use native.Mathlib.Decide.{ℕ-discrete}
@@ -9,7 +9,7 @@ use mathlib.Core.Logic.{_≢_}
 use mathlib.Core.Bool.{Bool, true, false, cond, not}
 use mathlib.Core.List.{List, [], _∷_, append-nil}
 use lib.Dec.{eqb, ltb}
-use lib.ListN.{length, getD, length-map, List·getD-eq-default}
+use lib.ListN.{length, getD, take, drop, length-map, length-take, List·getD-eq-default}
 use borrow.Author.Tests.{ne-eqb, ltb-false, le-ltb}
 use Rattle.limits.specs.Limits.{lastCounter}
 use Rattle.lists.specs.Runs.{tab}
@@ -32,7 +32,7 @@ use Rattle.mount.specs.Mount.{begin, installed, drain, moved, settle, afterRead
 use Rattle.mount.proofs.Stays.{room-for}
 use Rattle.promises_model.specs.Model.{Kit}
 use Rattle.promises_model.specs.Model as M
-use Rattle.promises_mount.specs.Words.{headerAt, Untouched, reading, surveyed, standing}
+use Rattle.promises_mount.specs.Words.{headerAt, Untouched, UntouchedExactly, reading, surveyed, standing}
 use Rattle.promises_mount.proofs.Kit.{said, looks, realKit}
 use Rattle.promises_mount.proofs.Bridge.{plain, shown, shownW, pooled, scan-is, scan-dirs, drain-is}
 
@@ -91,6 +91,15 @@ module _ (g : Geometry) (plan : List ℕ) where
       go (yes e) = empty-read d i e (u .1 e)
       go (no n) = whole-read d i s r (u .0) n
 
+  -- a read that gives the whole block under byte 2 is of an empty slot: half of what is there is all of it
+  halved-empty : (d : Dev) (i : ℕ) → Shape g (d .bytes) (d .phys) → i < length (d .phys) → given plan g i 0 512 d ≡ blockOf g i d
+      → turn plan (d .place) ≡ 2 → physOf i d ≡ 0
+  unfolding given share
+  halved-empty d i s r e two =
+      let n = min 512 (physOf i d - 0) in
+      let h : take (n / 2) (drop (i * g .size + 0) (d .bytes)) ≡ blockOf g i d = rw two at e in
+      omega (arith, ap length h, length-take (n / 2) (drop (i * g .size + 0) (d .bytes)), memory plan g .block-length d i s r)
+
   reads-are : (k i : ℕ) (d : Dev) → Shape g (d .bytes) (d .phys) → i + k ≤ length (d .phys) → Untouched plan i k d
       → readsM plan g i k d ≡ record { failed = false; heads = tab (headerAt g d) i k; place = looks plan k d .place }
   unfolding readsM tab looks looked headerAt
@@ -107,6 +116,15 @@ module _ (g : Geometry) (plan : List ℕ) where
   unfolding looks looked
   looks-dev zero d = refl
   looks-dev (suc k) d = looks-dev k (looked plan d)
+
+pub untouched-exactly : UntouchedExactly
+unfolding UntouchedExactly Untouched turn
+untouched-exactly plan g d i s r = (
+  λ u. let n = untouched-now plan i 0 d u in (n .0, read-is g plan d i s r n),
+  λ w j l.
+      let z : j ≡ 0 = omega arith in
+      rw (z, add-zero (d .place .at), add-zero i) (w .0, halved-empty g plan d i s r (w .1)),
+)
 
 -- ---- what releases leave
 

@@ -11,7 +11,7 @@ use Rattle.lists.specs.Distinct.{In, Distinct}
 use Rattle.path.specs.Path.{samePath, ancestors}
 use Rattle.device.specs.declared.Place.{Place}
 use Rattle.device.specs.declared.Geometry.{Geometry}
-use Rattle.device.specs.Device.{Dev, physOf}
+use Rattle.device.specs.Device.{Dev, Shape, turn, physOf, given}
 use Rattle.device.specs.Calls.{blockOf}
 use Rattle.slot_rows.specs.Rows.{Row, at, isBound, pathOf, genOf, lenOf, find}
 use Rattle.pool_state.specs.State.{State}
@@ -32,6 +32,11 @@ headerAt g d i = headOf (blockOf g i d)
 unfoldable pub Untouched : List ℕ → ℕ → ℕ → Dev → Type 0
 Untouched plan i k d =
     (j : ℕ) → j < k → (getD plan (d .place .at + j) 0 ≢ 1) × (getD plan (d .place .at + j) 0 ≡ 2 → physOf (i + j) d ≡ 0)
+
+-- That says exactly "neither failed nor cut short": each of these reads is done, and gives the slot's whole block.
+unfoldable pub UntouchedExactly : Type 0
+UntouchedExactly = (plan : List ℕ) (g : Geometry) (d : Dev) (i : ℕ) → Shape g (d .bytes) (d .phys) → i < length (d .phys)
+    → Untouched plan i 1 d ↔ ((turn plan (d .place) ≢ 1) × (given plan g i 0 512 d ≡ blockOf g i d))
 
 -- From this place on the plan has no byte 1 or 2.
 unfoldable pub Faultless : List ℕ → Place → Type 0

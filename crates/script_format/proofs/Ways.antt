@@ -16,8 +16,9 @@ use Rattle.script_format.specs.declared.Span.{Span}
 use Rattle.script_format.specs.declared.Form.{Form}
 use Rattle.script_format.specs.declared.Op.{Op}
 use Rattle.script_format.specs.declared.Setup.{Setup}
-use Rattle.script_format.specs.Format.{span, noSpan, spanAt, spanIf, runIn, form, forms, lastCode, formOf, noForm, noOp, opOf, runsAt}
-use Rattle.script_format.specs.Format.{argsOf, opAt, limitsOk, noSetup, behindPlan, setupAt, lengthAt, Patching, patching, placed, patchAt, patchedM}
+use Rattle.script_format.specs.Format.{span, noSpan, spanAt, spanIf, runIn, row, forms, lastCode, formOf, noForm, isCode, noOp, opOf}
+use Rattle.script_format.specs.Reading.{behind-last}
+use Rattle.script_format.specs.Format.{generationAt, runsAt, argsOf, opAt, limitsOk, noSetup, behindPlan, setupAt, lengthAt, Patching, patching, placed, patchAt, patchedM}
 
 -- ---- runs
 
@@ -45,18 +46,26 @@ module _ (s : List ℕ) (i : ℕ) where
 
 -- ---- operations
 
-abbrev col : (Form → ℕ) → List Form → List ℕ
-col f [] = []
-col f (r ∷ l) = f r ∷ col f l
+-- a row's cells, and those of some rows
+abbrev cells : Form → List ℕ
+cells f =
+    f .used ∷ f .slot ∷ f .flag ∷ f .len ∷ f .generation ∷ f .at ∷ f .n ∷ f .runs
+    ∷ f .«gives_slot» ∷ f .«gives_generation» ∷ f .«gives_len» ∷ f .«gives_count» ∷ f .«gives_yes» ∷ []
 
--- a row of the table, read column by column
-pub columns : (l : List Form) (i : ℕ)
-    → form (getD (col (λ f. f .slot) l) i 0) (getD (col (λ f. f .generation) l) i 0) (getD (col (λ f. f .at) l) i 0) (getD (col (λ f. f .n) l) i 0)
-    (getD (col (λ f. f .runs) l) i 0) (getD (col (λ f. f .«gives_slot») l) i 0) (getD (col (λ f. f .«gives_generation») l) i 0)
-    (getD (col (λ f. f .«gives_len») l) i 0) (getD (col (λ f. f .«gives_count») l) i 0) (getD (col (λ f. f .«gives_yes») l) i 0) ≡ getD l i noForm
-columns [] i = refl
-columns (r ∷ l) zero = refl
-columns (r ∷ l) (suc i) = columns l i
+abbrev cellsOf : List Form → List (List ℕ)
+cellsOf [] = []
+cellsOf (r ∷ l) = cells r ∷ cellsOf l
+
+abbrev ofCells : List ℕ → Form
+ofCells c =
+    row (getD c 0 0) (getD c 1 0) (getD c 2 0) (getD c 3 0) (getD c 4 0) (getD c 5 0) (getD c 6 0) (getD c 7 0) (getD c 8 0) (getD c 9 0)
+    (getD c 10 0) (getD c 11 0) (getD c 12 0)
+
+-- a row of the table, made of its cells; d is what stands for a row past the end
+pub row-of-cells : (l : List Form) (i : ℕ) (d : List ℕ) → i < length l → ofCells (getD (cellsOf l) i d) ≡ getD l i noForm
+row-of-cells [] i d h = absurd (omega (arith, h))
+row-of-cells (r ∷ l) zero d h = refl
+row-of-cells (r ∷ l) (suc i) d h = row-of-cells l i d (omega (arith, h))
 
 module _ (s : List ℕ) (i code : ℕ) (f : Form) (e : f ≡ formOf code) where
   pub args-short : length s < runsAt i f → noOp ≡ argsOf s i code
@@ -73,11 +82,12 @@ module _ (s : List ℕ) (i code : ℕ) (f : Form) (e : f ≡ formOf code) where
       unfolding argsOf opOf
       args-second w = rw (← e, ← ea, ← eb, le-leb _ _ h, wa, w)
 
-      pub args-whole : (p q r t : ℕ) → b .whole ≡ true → p ≡ field s i (f .slot) → q ≡ field s (i + f .slot) (f .generation)
-          → r ≡ field s (i + f .slot + f .generation) (f .at) → t ≡ field s (i + f .slot + f .generation + f .at) (f .n)
-          → record { code = code; slot = p; generation = q; at = r; n = t; first = a; second = b } ≡ argsOf s i code
+      pub args-whole : (p x y q r t : ℕ) → b .whole ≡ true → p ≡ field s i (f .slot) → x ≡ field s (i + f .slot) (f .flag)
+          → y ≡ field s (i + f .slot + f .flag) (f .len) → q ≡ field s (generationAt i f) (f .generation)
+          → r ≡ field s (generationAt i f + f .generation) (f .at) → t ≡ field s (generationAt i f + f .generation + f .at) (f .n)
+          → record { code = code; slot = p; flag = x; len = y; generation = q; at = r; n = t; first = a; second = b } ≡ argsOf s i code
       unfolding argsOf opOf
-      args-whole p q r t w ep eq er et = rw (← e, ← ea, ← eb, le-leb _ _ h, wa, w, ep, eq, er, et)
+      args-whole p x y q r t w ep ex ey eq er et = rw (← e, ← ea, ← eb, le-leb _ _ h, wa, w, ep, ex, ey, eq, er, et)
 
 module _ (s : List ℕ) (i : ℕ) where
   pub op-end : length s ≤ i → noOp ≡ opAt s i
@@ -86,17 +96,17 @@ module _ (s : List ℕ) (i : ℕ) where
 
   module _ (h : i < length s) where
     pub op-unknown : lastCode < getD s i 0 → noOp ≡ opAt s i
-    unfolding opAt
-    op-unknown l = rw (lt-leb _ _ h, lt-ltb _ _ l)
+    unfolding opAt isCode
+    op-unknown l = rw (lt-leb _ _ h, behind-last _ l)
 
-    module _ (l : getD s i 0 ≤ lastCode) where
-      pub op-zero : getD s i 0 ≡ 0 → noOp ≡ opAt s i
-      unfolding opAt
-      op-zero z = rw (lt-leb _ _ h, le-ltb _ _ l, eq-eqb _ _ z)
+    module _ (f : Form) (e : f ≡ formOf (getD s i 0)) where
+      pub op-none : f .used ≡ 0 → noOp ≡ opAt s i
+      unfolding opAt isCode
+      op-none z = rw (lt-leb _ _ h, ← e, eq-eqb _ _ z)
 
-      pub op-known : (o : Op) → (getD s i 0 ≡ 0 → ⊥) → o ≡ argsOf s (i + 1) (getD s i 0) → o ≡ opAt s i
-      unfolding opAt
-      op-known o z e = e ∙ rw (lt-leb _ _ h, le-ltb _ _ l, ne-eqb _ _ z)
+      pub op-known : (o : Op) → (f .used ≡ 0 → ⊥) → o ≡ argsOf s (i + 1) (getD s i 0) → o ≡ opAt s i
+      unfolding opAt isCode
+      op-known o z k = k ∙ rw (lt-leb _ _ h, ← e, ne-eqb _ _ z)
 
 -- ---- the setup
 

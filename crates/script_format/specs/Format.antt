@@ -1,6 +1,6 @@
 -- The format of a script, in the order of docs/EXPORTS.md: "All numbers are unsigned and little-endian." A place is an index of the script s.
 use Prim.Native.Nat.{ℕ, zero, suc, _+_, _-_, _*_, _^_}
-use mathlib.Core.Bool.{Bool, true, false, cond, _&&_}
+use mathlib.Core.Bool.{Bool, true, false, cond, not, _&&_}
 use mathlib.Core.List.{List, [], _∷_}
 use lib.Dec.{eqb, leb, ltb}
 use lib.ListN.{length, getD, take, drop}
@@ -37,10 +37,14 @@ runIn s r = take (r .to - r .from) (drop (r .from) s)
 
 -- ---- operations
 
--- Widths of slot, generation, offset or length, and small number; count of runs; and, of the answer, widths of slot, generation, length, count and yes.
-abbrev pub form : ℕ → ℕ → ℕ → ℕ → ℕ → ℕ → ℕ → ℕ → ℕ → ℕ → Form
-form slot generation pos n runs slot′ generation′ len′ count′ yes′ = record {
+-- A row of the table: whether it is an operation's; widths of slot, flag, length, generation, offset or length, and small number; count of
+-- runs; and, of the answer, widths of slot, generation, length, count and yes.
+abbrev pub row : ℕ → ℕ → ℕ → ℕ → ℕ → ℕ → ℕ → ℕ → ℕ → ℕ → ℕ → ℕ → ℕ → Form
+row used slot flag len generation pos n runs slot′ generation′ len′ count′ yes′ = record {
+  used = used;
   slot = slot;
+  flag = flag;
+  len = len;
   generation = generation;
   at = pos;
   n = n;
@@ -52,41 +56,63 @@ form slot generation pos n runs slot′ generation′ len′ count′ yes′ = r
   «gives_yes» = yes′;
 }
 
+-- The row of an operation, and of a number that is no operation's.
+abbrev pub form : ℕ → ℕ → ℕ → ℕ → ℕ → ℕ → ℕ → ℕ → ℕ → ℕ → ℕ → ℕ → Form
+form = row 1
+
 abbrev pub noForm : Form
-noForm = form 0 0 0 0 0 0 0 0 0 0
+noForm = row 0 0 0 0 0 0 0 0 0 0 0 0 0
 
 -- The table of codes. A handle is "slot u32, generation u64"; the bytes of a buffer that was lent come behind the numbers.
 abbrev pub forms : List Form
 forms =
     noForm
-    ∷ form 0 0 0 1 0 0 0 0 0 0  -- 1 mount: u8 slots asked for
-    ∷ form 0 0 0 1 0 0 0 0 0 0  -- 2 adopt: u8 slots asked for
-    ∷ form 0 0 0 1 1 4 8 8 0 0  -- 3 open_write: u8 keep, run path; slot u32, generation u64, length u64
-    ∷ form 0 0 0 0 1 4 8 0 0 0  -- 4 open_read: run path; slot u32, generation u64
-    ∷ form 4 8 8 2 0 0 0 0 4 0  -- 5 read: handle, u64 at, u16 buffer length; count u32
-    ∷ form 4 8 8 0 1 0 0 0 0 0  -- 6 write: handle, u64 at, run bytes
-    ∷ form 4 8 8 0 0 0 0 0 0 0  -- 7 set_len: handle, u64 length
-    ∷ form 4 8 0 0 0 0 0 8 0 0  -- 8 file_len: handle; u64
-    ∷ form 4 8 0 0 0 0 0 0 0 0  -- 9 sync: handle
-    ∷ form 0 0 0 0 1 0 0 0 0 0  -- 10 sync_dir: run path
-    ∷ form 0 0 0 0 2 0 0 0 0 0  -- 11 rename: run from, run to
-    ∷ form 0 0 0 0 1 0 0 0 0 0  -- 12 remove: run path
-    ∷ form 0 0 0 0 1 0 0 0 0 0  -- 13 create_dir_all: run path
-    ∷ form 0 0 0 2 1 0 0 0 4 0  -- 14 read_dir: u16 buffer length, run path; bytes written u32
-    ∷ form 0 0 0 0 1 0 0 0 0 1  -- 15 exists: run path; u8
-    ∷ form 0 0 0 0 1 0 0 8 0 1  -- 16 metadata: run path; length u64, u8 is a directory
+    ∷ form 0 0 0 0 0 1 0 0 0 0 0 0  -- 1 mount: u8 slots asked for
+    ∷ form 0 0 0 0 0 1 0 0 0 0 0 0  -- 2 adopt: u8 slots asked for
+    ∷ form 0 0 0 0 0 1 1 4 8 8 0 0  -- 3 open_write: u8 keep, run path; slot u32, generation u64, length u64
+    ∷ form 0 0 0 0 0 0 1 4 8 0 0 0  -- 4 open_read: run path; slot u32, generation u64
+    ∷ form 4 0 0 8 8 2 0 0 0 0 4 0  -- 5 read: handle, u64 at, u16 buffer length; count u32
+    ∷ form 4 0 0 8 8 0 1 0 0 0 0 0  -- 6 write: handle, u64 at, run bytes
+    ∷ form 4 0 0 8 8 0 0 0 0 0 0 0  -- 7 set_len: handle, u64 length
+    ∷ form 4 0 0 8 0 0 0 0 0 8 0 0  -- 8 file_len: handle; u64
+    ∷ form 4 0 0 8 0 0 0 0 0 0 0 0  -- 9 sync: handle
+    ∷ form 0 0 0 0 0 0 1 0 0 0 0 0  -- 10 sync_dir: run path
+    ∷ form 0 0 0 0 0 0 2 0 0 0 0 0  -- 11 rename: run from, run to
+    ∷ form 0 0 0 0 0 0 1 0 0 0 0 0  -- 12 remove: run path
+    ∷ form 0 0 0 0 0 0 1 0 0 0 0 0  -- 13 create_dir_all: run path
+    ∷ form 0 0 0 0 0 2 1 0 0 0 4 0  -- 14 read_dir: u16 buffer length, run path; bytes written u32
+    ∷ form 0 0 0 0 0 0 1 0 0 0 0 1  -- 15 exists: run path; u8
+    ∷ form 0 0 0 0 0 0 1 0 0 8 0 1  -- 16 metadata: run path; length u64, u8 is a directory
+    ∷ noForm  -- 17 is no code
+    ∷ noForm  -- 18 is no code
+    ∷ noForm  -- 19 is no code
+    ∷ noForm  -- 20 is no code
+    ∷ noForm  -- 21 is no code
+    ∷ form 4 0 0 0 8 2 0 0 0 0 4 0  -- 22 read_slot: u32 slot, u64 at, u16 buffer length; count u32
+    ∷ form 4 0 0 0 8 0 1 0 0 0 0 0  -- 23 write_slot: u32 slot, u64 at, run bytes
+    ∷ form 4 1 8 8 0 0 1 0 0 0 0 0  -- 24 sync_slot: u32 slot, u8 in use, u64 length, u64 generation, run path
+    ∷ form 4 0 0 0 0 0 0 0 0 0 0 0  -- 25 flush_slot: u32 slot
+    ∷ form 4 0 8 0 0 0 0 0 0 0 0 0  -- 26 truncate_slot: u32 slot, u64 length
     ∷ []
 
 -- The last of the codes.
 abbrev pub lastCode : ℕ
-lastCode = 16
+lastCode = 26
 
 unfoldable pub formOf : ℕ → Form
 formOf code = getD forms code noForm
 
+-- "a code of the table": its row is an operation's.
+unfoldable pub isCode : ℕ → Bool
+isCode code = not (eqb (formOf code .used) 0)
+
 -- No operation.
 abbrev pub noOp : Op
-noOp = record { code = 0; slot = 0; generation = 0; at = 0; n = 0; first = noSpan; second = noSpan }
+noOp = record { code = 0; slot = 0; flag = 0; len = 0; generation = 0; at = 0; n = 0; first = noSpan; second = noSpan }
+
+-- Where the generation stands, behind slot, flag and length.
+abbrev pub generationAt : ℕ → Form → ℕ
+generationAt i f = i + f .slot + f .flag + f .len
 
 -- The operation whose numbers are read, and whose runs are these: none where one is cut off.
 unfoldable pub opOf : List ℕ → ℕ → ℕ → Form → Span → Span → Op
@@ -95,9 +121,11 @@ opOf s i code f a b =
     (record {
       code = code;
       slot = field s i (f .slot);
-      generation = field s (i + f .slot) (f .generation);
-      at = field s (i + f .slot + f .generation) (f .at);
-      n = field s (i + f .slot + f .generation + f .at) (f .n);
+      flag = field s (i + f .slot) (f .flag);
+      len = field s (i + f .slot + f .flag) (f .len);
+      generation = field s (generationAt i f) (f .generation);
+      at = field s (generationAt i f + f .generation) (f .at);
+      n = field s (generationAt i f + f .generation + f .at) (f .n);
       first = a;
       second = b;
     })
@@ -105,7 +133,7 @@ opOf s i code f a b =
 
 -- Where the runs start.
 abbrev pub runsAt : ℕ → Form → ℕ
-runsAt i f = i + f .slot + f .generation + f .at + f .n
+runsAt i f = generationAt i f + f .generation + f .at + f .n
 
 -- The operation of this code, whose arguments are at i.
 unfoldable pub argsOf : List ℕ → ℕ → ℕ → Op
@@ -120,9 +148,7 @@ argsOf s i code =
 unfoldable pub opAt : List ℕ → ℕ → Op
 opAt s i =
     cond (leb (length s) i) noOp
-    (cond (ltb lastCode (getD s i 0)) noOp
-    (cond (eqb (getD s i 0) 0) noOp
-    (argsOf s (i + 1) (getD s i 0))))
+    (cond (isCode (getD s i 0)) (argsOf s (i + 1) (getD s i 0)) noOp)
 
 -- "operations to the end": those from i on, at most k of them. "The script ends before the first operation that is cut off or has no code".
 unfoldable pub operations : ℕ → List ℕ → ℕ → List Op

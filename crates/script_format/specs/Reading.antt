@@ -1,13 +1,13 @@
 -- What holds of runs, operations and setups that were read.
 use Prim.Native.Nat.{ℕ, zero, suc, _+_, _-_, _*_, _^_, _<_, _≤_}
 use mathlib.Core.Path.{_≡_, refl, sym, ap, subst, _∙_}
-use mathlib.Core.Bool.{Bool, true, false, cond, _&&_, false≢true}
+use mathlib.Core.Bool.{Bool, true, false, cond, not, _&&_, false≢true}
 use mathlib.Core.List.{List, [], _∷_}
 use native.Mathlib.Omega.{arith}
 use native.Mathlib.Nat.{pow-le-pow-right, lt-of-lt-of-le}
 use borrow.Author.Tests.{leb-true, leb-false, ltb-true, ltb-false, eqb-true, eqb-false}
 use lib.Dec.{eqb, leb, ltb}
-use lib.ListN.{length, getD, take, drop, length-take}
+use lib.ListN.{length, getD, take, drop, length-take, List·getD-eq-default}
 use lib.Seq.{sets}
 use Rattle.lists.specs.Bools.{both}
 use Rattle.le.specs.Le.{field, Bytes}
@@ -17,7 +17,7 @@ use Rattle.script_format.specs.declared.Form.{Form}
 use Rattle.script_format.specs.declared.Op.{Op}
 use Rattle.script_format.specs.declared.Setup.{Setup}
 use Rattle.script_format.specs.Format.{span, noSpan, spanAt, spanIf, forms, lastCode, formOf, noForm, noOp, opOf, runsAt}
-use Rattle.script_format.specs.Format.{argsOf, opAt, runIn, Patching, patching, placed, patchAt, limitsOk, noSetup, behindPlan, setupAt}
+use Rattle.script_format.specs.Format.{argsOf, opAt, isCode, generationAt, runIn, Patching, patching, placed, patchAt, limitsOk, noSetup, behindPlan, setupAt}
 
 -- A run lies inside of the script, behind the place i where it was looked for if it is whole.
 pub record Inside (s : List ℕ) (i : ℕ) (r : Span) : Type 0 where
@@ -57,6 +57,8 @@ below f k (r ∷ l) z h (suc i) = below f k l z (both (leb (f r) k) (allLe f k l
 -- The widths of an operation's numbers.
 pub record Small (f : Form) : Type 0 where
   pub slot : f .slot ≤ 8
+  pub flag : f .flag ≤ 1
+  pub len : f .len ≤ 8
   pub generation : f .generation ≤ 8
   pub at : f .at ≤ 8
   pub n : f .n ≤ 2
@@ -70,6 +72,8 @@ form-small : (code : ℕ) → Small (formOf code)
 unfolding formOf
 form-small code = record {
   slot = below (λ f. f .slot) 8 forms (omega arith) refl code;
+  flag = below (λ f. f .flag) 1 forms (omega arith) refl code;
+  len = below (λ f. f .len) 8 forms (omega arith) refl code;
   generation = below (λ f. f .generation) 8 forms (omega arith) refl code;
   at = below (λ f. f .at) 8 forms (omega arith) refl code;
   n = below (λ f. f .n) 2 forms (omega arith) refl code;
@@ -82,6 +86,19 @@ form-small code = record {
 
 pub small : (code : ℕ) (f : Form) → f ≡ formOf code → Small f
 small code f e = subst Small (sym e) (form-small code)
+
+-- A number behind the last code has no row.
+pub behind-last : (code : ℕ) → lastCode < code → formOf code ≡ noForm
+unfolding formOf
+behind-last code l = List·getD-eq-default forms noForm l
+
+code-last : (code : ℕ) → isCode code ≡ true → code ≤ lastCode
+unfolding isCode
+code-last code e = go (ltb lastCode code) refl
+  where
+    go : (t : Bool) → ltb lastCode code ≡ t → code ≤ lastCode
+    go false q = ltb-false lastCode code q
+    go true q = absurd (false≢true (ap (λ (f : Form). not (eqb (f .used) 0)) (sym (behind-last code (ltb-true lastCode code q))) ∙ e))
 
 -- A number of w bytes.
 pub field-lt : (s : List ℕ) (i w k : ℕ) → Bytes s → w ≤ k → field s i w < 256 ^ k
@@ -131,9 +148,11 @@ module _ (s : List ℕ) (b : Bytes s) where
         go : (p q : Bool) → a .whole ≡ p → e .whole ≡ q → Read i (cond (p && q) (record {
           code = code;
           slot = field s (i + 1) (f .slot);
-          generation = field s (i + 1 + f .slot) (f .generation);
-          at = field s (i + 1 + f .slot + f .generation) (f .at);
-          n = field s (i + 1 + f .slot + f .generation + f .at) (f .n);
+          flag = field s (i + 1 + f .slot) (f .flag);
+          len = field s (i + 1 + f .slot + f .flag) (f .len);
+          generation = field s (generationAt (i + 1) f) (f .generation);
+          at = field s (generationAt (i + 1) f + f .generation) (f .at);
+          n = field s (generationAt (i + 1) f + f .generation + f .at) (f .n);
           first = a;
           second = e;
         }) noOp)
@@ -141,7 +160,7 @@ module _ (s : List ℕ) (b : Bytes s) where
           held = record { first-order = x .order; first-end = x .end; second-order = y .order; second-end = y .end };
           further = omega (arith, x .behind u, x .order, y .behind v, y .order);
           code = c;
-          small = field-lt s (i + 1 + f .slot + f .generation + f .at) (f .n) 2 b (form-small code .n);
+          small = field-lt s (generationAt (i + 1) f + f .generation + f .at) (f .n) 2 b (form-small code .n);
         }
         go true false u v h = absurd (h refl)
         go false q u v h = absurd (h refl)
@@ -158,13 +177,12 @@ module _ (s : List ℕ) (b : Bytes s) where
 
   pub op-sound : (i : ℕ) → Read i (opAt s i)
   unfolding opAt
-  op-sound i = go (leb (length s) i) (ltb lastCode (getD s i 0)) (eqb (getD s i 0) 0) refl
+  op-sound i = go (leb (length s) i) (isCode (getD s i 0)) refl
     where
-      go : (x y z : Bool) → ltb lastCode (getD s i 0) ≡ y → Read i (cond x noOp (cond y noOp (cond z noOp (argsOf s (i + 1) (getD s i 0)))))
-      go true y z v = no-read i
-      go false true z v = no-read i
-      go false false true v = no-read i
-      go false false false v = args-sound i (getD s i 0) (omega (arith, ltb-false lastCode (getD s i 0) v))
+      go : (x y : Bool) → isCode (getD s i 0) ≡ y → Read i (cond x noOp (cond y (argsOf s (i + 1) (getD s i 0)) noOp))
+      go true y v = no-read i
+      go false false v = no-read i
+      go false true v = args-sound i (getD s i 0) (code-last (getD s i 0) v)
 
 -- ---- patches
 

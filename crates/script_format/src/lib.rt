@@ -11,9 +11,9 @@ ghost use Rattle.script_format.specs.Format.{limitsOk, noSetup, behindPl
 const LONGEST: usize = 0x100_0000_0000;
 
 // The last code of the table of operations.
-const LAST_CODE: usize = 16;
+const LAST_CODE: usize = 26;
 
-// How many rows the table has, with that of 0, which is no operation's.
+// How many rows the table has, with those that are no operation's.
 const CODES: usize = LAST_CODE + 1;
 
 // A run of bytes: where they start and end. If it is cut off, `whole` is false and the rest zero.
@@ -23,9 +23,13 @@ pub struct Span {
     pub whole: bool,
 }
 
-// How an operation is written: the widths of its numbers, how many runs come behind them, and the widths of what it answers.
+// How an operation is written: whether it is one, the widths of its numbers, how many runs come behind them, and the widths of what it
+// answers.
 pub struct Form {
+    pub used: usize,
     pub slot: usize,
+    pub flag: usize,
+    pub len: usize,
     pub generation: usize,
     pub at: usize,
     pub n: usize,
@@ -42,6 +46,8 @@ pub struct Form {
 pub struct Op {
     pub code: usize,
     pub slot: usize,
+    pub flag: u8,
+    pub len: u64,
     pub generation: u64,
     pub at: u64,
     pub n: usize,
@@ -112,32 +118,55 @@ fn run_if(s: &[u8], i: usize, wanted: bool) -> Span
 
 // ---- operations
 
-// The row of the table for a code.
+// The row of the table for a code. The columns are `Form`'s fields, in their order.
 pub fn form_of(code: usize) -> Form
     requires { ⌜ code ≤ lastCode ⌝ }
     ensures { λ r. ⌜ r ≡ formOf code ⌝ }
 {
-    let slot: [usize; CODES] = [0, 0, 0, 0, 0, 4, 4, 4, 4, 4, 0, 0, 0, 0, 0, 0, 0];
-    let generation: [usize; CODES] = [0, 0, 0, 0, 0, 8, 8, 8, 8, 8, 0, 0, 0, 0, 0, 0, 0];
-    let at: [usize; CODES] = [0, 0, 0, 0, 0, 8, 8, 8, 0, 0, 0, 0, 0, 0, 0, 0, 0];
-    let n: [usize; CODES] = [0, 1, 1, 1, 0, 2, 0, 0, 0, 0, 0, 0, 0, 0, 2, 0, 0];
-    let runs: [usize; CODES] = [0, 0, 0, 1, 1, 0, 1, 0, 0, 0, 1, 2, 1, 1, 1, 1, 1];
-    let gives_slot: [usize; CODES] = [0, 0, 0, 4, 4, 0, 0, 0, 0, 0, 0, 0, 0, 0, 0, 0, 0];
-    let gives_generation: [usize; CODES] = [0, 0, 0, 8, 8, 0, 0, 0, 0, 0, 0, 0, 0, 0, 0, 0, 0];
-    let gives_len: [usize; CODES] = [0, 0, 0, 8, 0, 0, 0, 0, 8, 0, 0, 0, 0, 0, 0, 0, 8];
-    let gives_count: [usize; CODES] = [0, 0, 0, 0, 0, 4, 0, 0, 0, 0, 0, 0, 0, 0, 4, 0, 0];
-    let gives_yes: [usize; CODES] = [0, 0, 0, 0, 0, 0, 0, 0, 0, 0, 0, 0, 0, 0, 0, 1, 1];
+    let table: [[usize; 13]; CODES] = [
+        [0, 0, 0, 0, 0, 0, 0, 0, 0, 0, 0, 0, 0], // 0
+        [1, 0, 0, 0, 0, 0, 1, 0, 0, 0, 0, 0, 0], // 1 mount
+        [1, 0, 0, 0, 0, 0, 1, 0, 0, 0, 0, 0, 0], // 2 adopt
+        [1, 0, 0, 0, 0, 0, 1, 1, 4, 8, 8, 0, 0], // 3 open_write
+        [1, 0, 0, 0, 0, 0, 0, 1, 4, 8, 0, 0, 0], // 4 open_read
+        [1, 4, 0, 0, 8, 8, 2, 0, 0, 0, 0, 4, 0], // 5 read
+        [1, 4, 0, 0, 8, 8, 0, 1, 0, 0, 0, 0, 0], // 6 write
+        [1, 4, 0, 0, 8, 8, 0, 0, 0, 0, 0, 0, 0], // 7 set_len
+        [1, 4, 0, 0, 8, 0, 0, 0, 0, 0, 8, 0, 0], // 8 file_len
+        [1, 4, 0, 0, 8, 0, 0, 0, 0, 0, 0, 0, 0], // 9 sync
+        [1, 0, 0, 0, 0, 0, 0, 1, 0, 0, 0, 0, 0], // 10 sync_dir
+        [1, 0, 0, 0, 0, 0, 0, 2, 0, 0, 0, 0, 0], // 11 rename
+        [1, 0, 0, 0, 0, 0, 0, 1, 0, 0, 0, 0, 0], // 12 remove
+        [1, 0, 0, 0, 0, 0, 0, 1, 0, 0, 0, 0, 0], // 13 create_dir_all
+        [1, 0, 0, 0, 0, 0, 2, 1, 0, 0, 0, 4, 0], // 14 read_dir
+        [1, 0, 0, 0, 0, 0, 0, 1, 0, 0, 0, 0, 1], // 15 exists
+        [1, 0, 0, 0, 0, 0, 0, 1, 0, 0, 8, 0, 1], // 16 metadata
+        [0, 0, 0, 0, 0, 0, 0, 0, 0, 0, 0, 0, 0], // 17
+        [0, 0, 0, 0, 0, 0, 0, 0, 0, 0, 0, 0, 0], // 18
+        [0, 0, 0, 0, 0, 0, 0, 0, 0, 0, 0, 0, 0], // 19
+        [0, 0, 0, 0, 0, 0, 0, 0, 0, 0, 0, 0, 0], // 20
+        [0, 0, 0, 0, 0, 0, 0, 0, 0, 0, 0, 0, 0], // 21
+        [1, 4, 0, 0, 0, 8, 2, 0, 0, 0, 0, 4, 0], // 22 read_slot
+        [1, 4, 0, 0, 0, 8, 0, 1, 0, 0, 0, 0, 0], // 23 write_slot
+        [1, 4, 1, 8, 8, 0, 0, 1, 0, 0, 0, 0, 0], // 24 sync_slot
+        [1, 4, 0, 0, 0, 0, 0, 0, 0, 0, 0, 0, 0], // 25 flush_slot
+        [1, 4, 0, 8, 0, 0, 0, 0, 0, 0, 0, 0, 0], // 26 truncate_slot
+    ];
+    let row = table[code];
     Form {
-        slot: slot[code],
-        generation: generation[code],
-        at: at[code],
-        n: n[code],
-        runs: runs[code],
-        gives_slot: gives_slot[code],
-        gives_generation: gives_generation[code],
-        gives_len: gives_len[code],
-        gives_count: gives_count[code],
-        gives_yes: gives_yes[code],
+        used: row[0],
+        slot: row[1],
+        flag: row[2],
+        len: row[3],
+        generation: row[4],
+        at: row[5],
+        n: row[6],
+        runs: row[7],
+        gives_slot: row[8],
+        gives_generation: row[9],
+        gives_len: row[10],
+        gives_count: row[11],
+        gives_yes: row[12],
     }
 }
 
@@ -147,6 +176,8 @@ fn no_op() -> Op
     Op {
         code: 0,
         slot: 0,
+        flag: 0,
+        len: 0,
         generation: 0,
         at: 0,
         n: 0,
@@ -167,19 +198,21 @@ pub fn op_at(s: &[u8], i: usize) -> Op
     if LAST_CODE < code {
         return no_op();
     }
-    if code == 0 {
+    let form = form_of(code);
+    if form.used == 0 {
         return no_op();
     }
-    args_of(s, i + 1, code)
+    args_of(s, i + 1, code, form)
 }
 
-// The operation of a code whose arguments are at i, or none.
-fn args_of(s: &[u8], i: usize, code: usize) -> Op
-    requires { ⌜ (i ≤ length (now s)) × (code ≤ lastCode) ⌝ }
+// The operation of a code with this row whose arguments are at i, or none.
+fn args_of(s: &[u8], i: usize, code: usize, f: Form) -> Op
+    requires { ⌜ (i ≤ length (now s)) × (f ≡ formOf code) ⌝ }
     ensures { λ r. ⌜ r ≡ argsOf (now (s .entry)) i code ⌝ }
 {
-    let f = form_of(code);
-    let at_generation = i + f.slot;
+    let at_flag = i + f.slot;
+    let at_len = at_flag + f.flag;
+    let at_generation = at_len + f.len;
     let at_at = at_generation + f.generation;
     let at_n = at_at + f.at;
     let at_runs = at_n + f.n;
@@ -197,6 +230,8 @@ fn args_of(s: &[u8], i: usize, code: usize) -> Op
     Op {
         code: code,
         slot: le::get_at(s, i, f.slot) as usize,
+        flag: le::get_at(s, at_flag, f.flag) as u8,
+        len: le::get_at(s, at_len, f.len),
         generation: le::get_at(s, at_generation, f.generation),
         at: le::get_at(s, at_at, f.at),
         n: le::get_at(s, at_n, f.n) as usize,

@@ -11,6 +11,8 @@ use lib.Seq.{take-at}
 use Rattle.le.specs.Le.{le}
 use Rattle.le.proofs.Fields.{length-le}
 use Rattle.device.specs.declared.Geometry.{Geometry}
+use Rattle.device.specs.Device.{Dev}
+use Rattle.slot_calls.specs.SlotCalls.{SlotDone, SlotRead, slotRead, readSlotM, writeSlotM, syncSlotM, flushSlotM, truncateSlotM}
 use Rattle.pool_steps.specs.World.{Lent}
 use Rattle.script_format.specs.declared.Op.{Op}
 use Rattle.script_format.specs.declared.Form.{Form}
@@ -19,12 +21,12 @@ use Rattle.output.specs.Writer.{Shown, pours}
 use Rattle.output.proofs.InParts.{after-pours}
 use Rattle.calls_gate.specs.declared.Call.{Call}
 use Rattle.calls_gate.specs.declared.Call.the-variants.{Mount, Adopt, OpenWrite, OpenRead, ReadAt, WriteAt, SetLen, FileLen, Sync, Metadata}
-use Rattle.calls_gate.specs.declared.Reply.{Reply}
-use Rattle.calls_gate.specs.Answers.{numberOf}
-use Rattle.calls_gate.specs.Replies.{Came}
+use Rattle.calls_gate.specs.declared.Told.{Told}
+use Rattle.calls_gate.specs.Replies.{Came, came}
 use Rattle.calls_gate.specs.Table.{opening}
 use Rattle.calls_gate.specs.Calls.{callP}
-use Rattle.script_step.specs.Operate.{bit, onHandle, onPath, callOf, answerM, room, saidOf, answeredM, opM, Reached, reached, spoken}
+use Rattle.script_step.specs.Operate.{onHandle, onPath, callOf, changeSlot, onSlot, slotCame, madeM}
+use Rattle.script_step.specs.Operate.{bit, answerM, room, saidOf, answeredM, opM, Reached, reached, spoken}
 
 -- ---- the rows
 
@@ -92,16 +94,61 @@ pub asked : (plan : List ℕ) (g : Geometry) (o : Op) (k : Call) (one two buf : 
     → x ≡ callP plan g k one two buf l → x ≡ callP plan g (callOf o) one two buf l
 asked plan g o k one two buf l x e f = f ∙ ap (λ (j : Call). callP plan g j one two buf l) e
 
+-- ---- a call on a slot
+
+module _ (plan : List ℕ) (g : Geometry) (o : Op) (run : List ℕ) (d : Dev) where
+  pub is-write-slot : (x : SlotDone) → o .code ≡ 23 → x ≡ writeSlotM plan g (o .slot) (o .at) run d → x ≡ changeSlot plan g o run d
+  unfolding changeSlot
+  is-write-slot x h e = e ∙ rw (eq-eqb _ _ h)
+
+  module _ (a : o .code ≡ 23 → ⊥) where
+    pub is-sync-slot : (x : SlotDone) → o .code ≡ 24 → x ≡ syncSlotM plan g (o .slot) (o .flag) run (o .len) (o .generation) d
+        → x ≡ changeSlot plan g o run d
+    unfolding changeSlot
+    is-sync-slot x h e = e ∙ rw (ne-eqb _ _ a, eq-eqb _ _ h)
+
+    module _ (b : o .code ≡ 24 → ⊥) where
+      pub is-flush-slot : (x : SlotDone) → o .code ≡ 25 → x ≡ flushSlotM plan g (o .slot) d → x ≡ changeSlot plan g o run d
+      unfolding changeSlot
+      is-flush-slot x h e = e ∙ rw (ne-eqb _ _ a, ne-eqb _ _ b, eq-eqb _ _ h)
+
+      pub is-truncate-slot : (x : SlotDone) → (o .code ≡ 25 → ⊥) → x ≡ truncateSlotM plan g (o .slot) (o .len) d
+          → x ≡ changeSlot plan g o run d
+      unfolding changeSlot
+      is-truncate-slot x h e = e ∙ rw (ne-eqb _ _ a, ne-eqb _ _ b, ne-eqb _ _ h)
+
+  module _ (buf : List ℕ) where
+    pub is-read-slot : (x : SlotRead) → o .code ≡ 22 → x ≡ readSlotM plan g (o .slot) (o .at) buf d → x ≡ onSlot plan g o run buf d
+    unfolding onSlot
+    is-read-slot x h e = e ∙ rw (eq-eqb _ _ h)
+
+    pub is-change : (x : SlotDone) → (o .code ≡ 22 → ⊥) → x ≡ changeSlot plan g o run d
+        → slotRead (x .number) 0 buf (x .dev) ≡ onSlot plan g o run buf d
+    unfolding onSlot
+    is-change x h e = ap (λ (y : SlotDone). slotRead (y .number) 0 buf (y .dev)) e ∙ rw (ne-eqb _ _ h)
+
+-- the call that is made is one on a slot, or the pool's
+module _ (s plan : List ℕ) (g : Geometry) (o : Op) (buf : List ℕ) (l : Lent) where
+  pub made-on-slot : (x : SlotRead) → 22 ≤ o .code → x ≡ onSlot plan g o (runIn s (o .first)) buf (l .dev)
+      → slotCame l x ≡ madeM s plan g o buf l
+  unfolding madeM
+  made-on-slot x h e = ap (slotCame l) e ∙ rw (le-leb _ _ h)
+
+  pub made-on-pool : (n : ℕ) (x : Came) → o .code < 22 → n ≡ x .number
+      → x ≡ callP plan g (callOf o) (runIn s (o .first)) (runIn s (o .second)) buf l
+      → came n (x .told) (x .left) (x .buf) ≡ madeM s plan g o buf l
+  unfolding madeM
+  made-on-pool n x h q e = ap (λ (m : ℕ). came m (x .told) (x .left) (x .buf)) q ∙ e ∙ rw (lt-leb _ _ h)
+
 -- ---- the answer
 
--- of the reply's numbers, each as it was put out
-pub answer-is : (o : Op) (f : Form) (r : Reply) (n k : ℕ) (buf : List ℕ) → f ≡ formOf (o .code) → n ≡ numberOf (r .answer)
-    → k ≡ bit (r .told .yes)
-    → le 1 n ++ le (f .«gives_slot») (r .told .slot) ++ le (f .«gives_generation») (r .told .generation)
-    ++ le (f .«gives_len») (r .told .len) ++ le (f .«gives_count») (r .told .count) ++ le (f .«gives_yes») k ++ buf
-    ≡ answerM o (numberOf (r .answer)) (r .told) buf
+-- of what is told, each number as it was put out
+pub answer-is : (o : Op) (f : Form) (n : ℕ) (t : Told) (k : ℕ) (buf : List ℕ) → f ≡ formOf (o .code) → k ≡ bit (t .yes)
+    → le 1 n ++ le (f .«gives_slot») (t .slot) ++ le (f .«gives_generation») (t .generation)
+    ++ le (f .«gives_len») (t .len) ++ le (f .«gives_count») (t .count) ++ le (f .«gives_yes») k ++ buf
+    ≡ answerM o n t buf
 unfolding answerM
-answer-is o f r n k buf e en ek = rw (e, en, ek)
+answer-is o f n t k buf e ek = rw (e, ek)
 
 -- a number takes at most 8 bytes
 pub near : (w x : ℕ) (o : Shown) {o′ : Shown} → w ≤ 8 → o′ ≡ pours (le w x) o → o′ .at ≤ o .at + 8
@@ -132,7 +179,7 @@ fresh-front n m x w e h =
 
 -- the call, and its answer put out
 pub answered-is : (s plan : List ℕ) (g : Geometry) (o : Op) (l : Lent) (c : Came) (buf : List ℕ) (x x′ : Shown)
-    → c ≡ callP plan g (callOf o) (runIn s (o .first)) (runIn s (o .second)) buf l → x′ ≡ pours (saidOf o c .answer) x
+    → c ≡ madeM s plan g o buf l → x′ ≡ pours (saidOf o c .answer) x
     → reached x′ (c .left) ≡ spoken (answeredM s plan g o buf l) x
 unfolding answeredM spoken
 answered-is s plan g o l c buf x x′ e h =

@@ -1,12 +1,14 @@
 -- One operation of a script: the call that docs/EXPORTS.md's table has for its code, and its answer. s is the script, l what is lent.
 use Prim.Native.Nat.{ℕ}
-use mathlib.Core.Bool.{Bool, cond, not}
+use mathlib.Core.Bool.{Bool, false, cond, not}
 use mathlib.Core.List.{List, _++_}
 use lib.Dec.{eqb, leb}
 use lib.ListN.{replicate}
 use Rattle.le.specs.Le.{le}
 use Rattle.device.specs.declared.Geometry.{Geometry}
-use Rattle.pool_steps.specs.World.{Lent}
+use Rattle.device.specs.Device.{Dev}
+use Rattle.slot_calls.specs.SlotCalls.{SlotDone, SlotRead, slotRead, readSlotM, writeSlotM, syncSlotM, flushSlotM, truncateSlotM}
+use Rattle.pool_steps.specs.World.{Lent, lent}
 use Rattle.script_format.specs.declared.Op.{Op}
 use Rattle.script_format.specs.Format.{runIn, formOf}
 use Rattle.output.specs.Writer.{Shown, pours}
@@ -14,7 +16,7 @@ use Rattle.calls_gate.specs.declared.Call.{Call}
 use Rattle.calls_gate.specs.declared.Call.the-variants.{Mount, Adopt, OpenWrite, OpenRead, ReadAt, WriteAt, SetLen, FileLen}
 use Rattle.calls_gate.specs.declared.Call.the-variants.{Sync, SyncDir, Rename, RemoveFile, CreateDirAll, ReadDir, Exists, Metadata}
 use Rattle.calls_gate.specs.declared.Told.{Told}
-use Rattle.calls_gate.specs.Replies.{Came}
+use Rattle.calls_gate.specs.Replies.{telling, Came, came}
 use Rattle.calls_gate.specs.Table.{opening}
 use Rattle.calls_gate.specs.Calls.{callP}
 
@@ -49,6 +51,31 @@ callOf o =
     (cond (eqb (o .code) 4) OpenRead
     (cond (leb (o .code) 9) (onHandle o) (onPath (o .code))))))
 
+-- 23 to 26, on a slot of the device d; `run` is the bytes, or the path. "u32 slot", then "u64 at", or "u8 in use, u64 length, u64
+-- generation", or "u64 length".
+unfoldable pub changeSlot : List ℕ → Geometry → Op → List ℕ → Dev → SlotDone
+changeSlot plan g o run d =
+    cond (eqb (o .code) 23) (writeSlotM plan g (o .slot) (o .at) run d)
+    (cond (eqb (o .code) 24) (syncSlotM plan g (o .slot) (o .flag) run (o .len) (o .generation) d)
+    (cond (eqb (o .code) 25) (flushSlotM plan g (o .slot) d)
+    (truncateSlotM plan g (o .slot) (o .len) d)))
+
+-- 22 to 26. Only 22 reads: the others leave the buffer.
+unfoldable pub onSlot : List ℕ → Geometry → Op → List ℕ → List ℕ → Dev → SlotRead
+onSlot plan g o run buf d =
+    cond (eqb (o .code) 22) (readSlotM plan g (o .slot) (o .at) buf d)
+    (slotRead (changeSlot plan g o run d .number) 0 buf (changeSlot plan g o run d .dev))
+
+-- What a call on a slot tells, and leaves of what is lent: the pool's record and rows stay.
+abbrev pub slotCame : Lent → SlotRead → Came
+slotCame l x = came (x .number) (telling 0 0 0 (x .count) false) (lent (x .dev) (l .bufs)) (x .buf)
+
+-- The call of an operation, which is handed this buffer: of a slot from code 22 on, else of the pool.
+unfoldable pub madeM : List ℕ → List ℕ → Geometry → Op → List ℕ → Lent → Came
+madeM s plan g o buf l =
+    cond (leb 22 (o .code)) (slotCame l (onSlot plan g o (runIn s (o .first)) buf (l .dev)))
+    (callP plan g (callOf o) (runIn s (o .first)) (runIn s (o .second)) buf l)
+
 -- ---- the answer
 
 abbrev pub bit : Bool → ℕ
@@ -77,9 +104,9 @@ said a l = record { answer = a; left = l }
 abbrev pub saidOf : Op → Came → Said
 saidOf o c = said (answerM o (c .number) (c .told) (c .buf)) (c .left)
 
--- The call is handed this buffer.
+-- Its answer.
 unfoldable pub answeredM : List ℕ → List ℕ → Geometry → Op → List ℕ → Lent → Said
-answeredM s plan g o buf l = saidOf o (callP plan g (callOf o) (runIn s (o .first)) (runIn s (o .second)) buf l)
+answeredM s plan g o buf l = saidOf o (madeM s plan g o buf l)
 
 -- The buffer is "all 0xAA before the call".
 unfoldable pub opM : List ℕ → List ℕ → Geometry → Op → Lent → Said

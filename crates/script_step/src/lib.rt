@@ -1,15 +1,19 @@
-// One operation of a script (docs/EXPORTS.md): the call that its code stands for, made through the pool's face of records, and its answer,
-// which goes to the output. A refused call answers its number and as many bytes as any other. The caller has seen that the operation is
-// whole and its runs lie inside of the script.
+// One operation of a script (docs/EXPORTS.md): the call that its code stands for, made through the pool's face of records, or on a slot of
+// the device alone, and its answer, which goes to the output. A refused call answers its number and as many bytes as any other. The caller
+// has seen that the operation is whole and its runs lie inside of the script.
 use calls_gate::Call;
 use calls_gate::Reply;
+use calls_gate::Told;
 use device::Geometry;
 use device::Place;
 use pool_state::Pool;
 use script_format::Op;
+use slot_calls::SlotCame;
 ghost use mathlib.Core.Path.{_≡_};
 ghost use Prim.Native.Nat.{_+_, _^_, _≤_, _<_};
 ghost use lib.ListN.{length, replicate};
+ghost use Rattle.device.specs.Device.{devBefore, devAfter};
+ghost use Rattle.slot_calls.specs.SlotCalls.{slotDone, slotRead};
 ghost use Rattle.pool_steps.specs.World.{before, after};
 ghost use Rattle.script_format.specs.Format.{lastCode, runIn};
 ghost use Rattle.script_format.specs.Reading.{Held};
@@ -17,13 +21,29 @@ ghost use Rattle.output.specs.Writer.{shown, pours};
 ghost use Rattle.calls_gate.specs.Answers.{numberOf};
 ghost use Rattle.calls_gate.specs.Replies.{came};
 ghost use Rattle.calls_gate.specs.Calls.{callP};
-ghost use Rattle.script_step.specs.Operate.{bit, onHandle, onPath, callOf, answerM, room, answeredM, opM, reached, spoken};
+ghost use Rattle.script_step.specs.Operate.{onHandle, onPath, callOf, changeSlot, onSlot, madeM};
+ghost use Rattle.script_step.specs.Operate.{bit, answerM, room, answeredM, opM, reached, spoken};
 
 // The place and the record after an operation, and how much was put out.
 pub struct Ran {
     pub place: Place,
     pub pool: Pool,
     pub at: usize,
+}
+
+// What a call came to: its number, what it tells, and the place and the record after it.
+struct CallCame {
+    number: u8,
+    told: Told,
+    place: Place,
+    pool: Pool,
+}
+
+// What a call on a slot came to: its number, how many bytes it gave, and the place after it.
+struct OnSlot {
+    number: u8,
+    count: usize,
+    place: Place,
 }
 
 // ---- the call
@@ -107,7 +127,7 @@ fn call_of(op: Op) -> Call
     on_path(op)
 }
 
-// Makes the call of an operation, which is handed this buffer.
+// Makes the call of an operation on the pool, which is handed this buffer.
 fn ask(
     bytes: &mut [u8],
     phys: &mut [u64],
@@ -152,6 +172,166 @@ fn ask(
     )
 }
 
+// Codes 23 to 26: write_slot, sync_slot, flush_slot, truncate_slot.
+fn change_slot(
+    bytes: &mut [u8],
+    phys: &mut [u64],
+    geometry: Geometry,
+    plan: &[u8],
+    place: Place,
+    script: &[u8],
+    op: Op,
+) -> SlotCame
+    requires { ⌜ Held (now script) op ⌝ }
+    ensures { λ r. ⌜
+        slotDone (r .told) (devAfter bytes phys (r .place))
+        ≡ changeSlot (now (plan .entry)) geometry op (runIn (now (script .entry)) (op .first)) (devBefore bytes phys place) ⌝ }
+{
+    let code = op.code;
+    let slot = op.slot;
+    let at = op.at;
+    let len = op.len;
+    let first = op.first;
+    let a = first.from;
+    let e = first.to;
+    if code == 23 {
+        return slot_calls::write_by_value(
+            bytes,
+            phys,
+            geometry,
+            plan,
+            place,
+            slot,
+            at,
+            &script[a..e],
+        );
+    }
+    if code == 24 {
+        let flag = op.flag;
+        let generation = op.generation;
+        return slot_calls::sync_by_value(
+            bytes,
+            phys,
+            geometry,
+            plan,
+            place,
+            slot,
+            flag,
+            &script[a..e],
+            len,
+            generation,
+        );
+    }
+    if code == 25 {
+        return slot_calls::flush_by_value(bytes, phys, geometry, plan, place, slot);
+    }
+    slot_calls::truncate_by_value(bytes, phys, geometry, plan, place, slot, len)
+}
+
+// Codes 22 to 26: a call on a slot of the device, whether or not there is a pool.
+fn on_slot(
+    bytes: &mut [u8],
+    phys: &mut [u64],
+    geometry: Geometry,
+    plan: &[u8],
+    place: Place,
+    script: &[u8],
+    op: Op,
+    buf: &mut [u8],
+) -> OnSlot
+    requires { ⌜ Held (now script) op ⌝ }
+    ensures { λ r. ⌜
+        slotRead (r .number) (r .count) (now (buf .exit)) (devAfter bytes phys (r .place))
+        ≡ onSlot (now (plan .entry)) geometry op (runIn (now (script .entry)) (op .first)) (now (buf .entry))
+        (devBefore bytes phys place) ⌝ }
+{
+    let code = op.code;
+    if code == 22 {
+        let slot = op.slot;
+        let at = op.at;
+        let got = slot_calls::read_by_value(bytes, phys, geometry, plan, place, slot, at, buf);
+        let told = got.told;
+        let after = got.place;
+        return OnSlot {
+            number: told.number,
+            count: told.count,
+            place: after,
+        };
+    }
+    let came = change_slot(bytes, phys, geometry, plan, place, script, op);
+    let after = came.place;
+    OnSlot {
+        number: came.told,
+        count: 0,
+        place: after,
+    }
+}
+
+// Makes the call of an operation: of a slot from code 22 on, else of the pool. A call on a slot leaves the pool's record and rows.
+fn make(
+    bytes: &mut [u8],
+    phys: &mut [u64],
+    geometry: Geometry,
+    plan: &[u8],
+    place: Place,
+    nums: &mut [u64],
+    names: &mut [u8],
+    dirs: &mut [u8],
+    pool: Pool,
+    script: &[u8],
+    op: Op,
+    buf: &mut [u8],
+) -> CallCame
+    requires { ⌜ Held (now script) op ⌝ }
+    ensures { λ r. ⌜
+        came (r .number) (r .told) (after bytes phys (r .place) nums names dirs (r .pool)) (now (buf .exit))
+        ≡ madeM (now (script .entry)) (now (plan .entry)) geometry op (now (buf .entry))
+        (before bytes phys place nums names dirs pool) ⌝ }
+{
+    let code = op.code;
+    if 22 <= code {
+        let slot = on_slot(bytes, phys, geometry, plan, place, script, op, buf);
+        let told = Told {
+            slot: 0,
+            generation: 0,
+            len: 0,
+            count: slot.count,
+            yes: false,
+        };
+        let after = slot.place;
+        return CallCame {
+            number: slot.number,
+            told: told,
+            place: after,
+            pool: pool,
+        };
+    }
+    let reply = ask(
+        bytes,
+        phys,
+        geometry,
+        plan,
+        place,
+        nums,
+        names,
+        dirs,
+        pool,
+        script,
+        op,
+        buf,
+    );
+    let answer = reply.answer;
+    let told = reply.told;
+    let after = reply.place;
+    let left = reply.pool;
+    CallCame {
+        number: calls_gate::number(answer),
+        told: told,
+        place: after,
+        pool: left,
+    }
+}
+
 // ---- the answer
 
 fn bit(b: bool) -> u64
@@ -161,17 +341,15 @@ fn bit(b: bool) -> u64
 }
 
 // Puts out what a call came to: its number, what it tells, as wide as the table says, and the buffer.
-fn put_answer(op: Op, reply: Reply, buf: &[u8], out: &mut [u8], at: usize) -> usize
+fn put_answer(op: Op, number: u8, told: Told, buf: &[u8], out: &mut [u8], at: usize) -> usize
     requires { ⌜ (op .code ≤ lastCode) × (length (now buf) < 65536) × (at < 2 ^ 62) ⌝ }
     ensures answer { λ r. ⌜
         shown (now (out .exit)) r
-        ≡ pours (answerM op (numberOf (reply .answer)) (reply .told) (now (buf .entry))) (shown (now (out .entry)) at) ⌝ }
+        ≡ pours (answerM op number told (now (buf .entry))) (shown (now (out .entry)) at) ⌝ }
     ensures few { λ r. ⌜ r ≤ at + 65600 ⌝ }
 {
-    let told = reply.told;
     let form = script_format::form_of(op.code);
-    let answer = reply.answer;
-    let a = output::put_le(out, at, 1, calls_gate::number(answer) as u64);
+    let a = output::put_le(out, at, 1, number as u64);
     let b = output::put_le(out, a, form.gives_slot, told.slot as u64);
     let c = output::put_le(out, b, form.gives_generation, told.generation);
     let d = output::put_le(out, c, form.gives_len, told.len);
@@ -204,7 +382,7 @@ fn answered(
         (before bytes phys place nums names dirs pool)) (shown (now (out .entry)) at) ⌝ }
     ensures few { λ r. ⌜ r .at ≤ at + 65600 ⌝ }
 {
-    let reply = ask(
+    let came = make(
         bytes,
         phys,
         geometry,
@@ -218,9 +396,10 @@ fn answered(
         op,
         buf,
     );
-    let after = reply.place;
-    let left = reply.pool;
-    let to = put_answer(op, reply, buf, out, at);
+    let after = came.place;
+    let left = came.pool;
+    let told = came.told;
+    let to = put_answer(op, came.number, told, buf, out, at);
     Ran {
         place: after,
         pool: left,

@@ -16,7 +16,7 @@ no-span-requires-2 : tie.Need-no-span-requires-2
 no-span-requires-2 c κs = search needs
 
 returns : tie.Need-returns
-returns c = ap₂ {C = Op} (λ a b. record { code = 0; slot = 0; generation = 0; at = 0; n = 0; first = a; second = b }) (c .before .no-span .ensures) (c .no-span2 .ensures)
+returns c = ap₂ {C = Op} (λ a b. record { code = 0; slot = 0; flag = 0; len = 0; generation = 0; at = 0; n = 0; first = a; second = b }) (c .before .no-span .ensures) (c .no-span2 .ensures)
 
 pub no-op-spec : {M : Type 1} → statement M
 no-op-spec = tie.close (tie.spec no-span-requires no-span-requires-2 returns)

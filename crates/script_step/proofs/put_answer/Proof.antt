@@ -13,7 +13,6 @@ use Rattle.script_step.proofs.put_answer.Statement.{statement}
 use Rattle.script_step.proofs.put_answer.Tie as tie
 use Rattle.script_step.proofs.put_answer.Reads as reads
 use Rattle.script_step.proofs.put_answer.Lts as lts
-use Rattle.calls_gate.proofs.number.Reads as number-reads
 use Rattle.script_step.proofs.bit.Reads as bit-reads
 use Rattle.script_format.proofs.form_of.Reads as form-of-reads
 use Rattle.output.proofs.put_bytes.Reads as put-bytes-reads
@@ -22,10 +21,10 @@ use Rattle.output.proofs.put_le.Reads as put-le-reads
 -- ---- places: that of the numbers, and from each number that is put out to the one before it
 
 abbrev start : tie.After-put-le → tie.Start
-start c = c .before .before .before .before .before .before .before
+start c = c .before .before .before .before .before
 
 abbrev form : tie.After-put-le → tie.After-form-of
-form c = c .before .before .before
+form c = c .before .before
 
 abbrev one : tie.After-put-le2 → tie.After-put-le
 one c = c .before .before .before .before
@@ -70,12 +69,6 @@ behind₆ c =
 
 form-of-requires : tie.Need-form-of-requires
 form-of-requires c κs = search needs
-
-number-requires : tie.Need-number-requires
-number-requires c κs = search needs
-
-cast-put-le : tie.Need-cast-put-le
-cast-put-le c = search needs
 
 put-le-requires : tie.Need-put-le-requires
 put-le-requires c κs = search needs
@@ -129,18 +122,18 @@ returns c =
     let p₁ = one p₂ in
     let a = start p₁ in
     let f = form p₁ .form-of .result in
-    let t = a .args .reply .told in
-    let n = p₁ .before .number in
+    let t = a .args .told in
+    let n = a .args .number in
     let b = p₆ .before .bit in
     let o = shown (a .args .out .now) (a .args .at) in
     let buf : List ℕ = a .args .buf .now in
     let put-bytes = c .before .before .put-bytes in
-    let e₂ = pours-then (le 1 (n .result)) (le (f .«gives_slot») (t .slot)) o (p₁ .put-le .ensures) (p₂ .put-le2 .ensures) in
+    let e₂ = pours-then (le 1 n) (le (f .«gives_slot») (t .slot)) o (p₁ .put-le .ensures) (p₂ .put-le2 .ensures) in
     let e₃ = pours-then _ (le (f .«gives_generation») (t .generation)) o e₂ (p₃ .put-le3 .ensures) in
     let e₄ = pours-then _ (le (f .«gives_len») (t .len)) o e₃ (p₄ .put-le4 .ensures) in
     let e₅ = pours-then _ (le (f .«gives_count») (t .count)) o e₄ (p₅ .put-le5 .ensures) in
     let e₆ = pours-then _ (le (f .«gives_yes») (b .result)) o e₅ (p₆ .put-le6 .ensures) in
-    let whole = answer-is (a .args .op) f (a .args .reply) (n .result) (b .result) buf (form p₁ .form-of .ensures) (n .ensures) (b .ensures) in (
+    let whole = answer-is (a .args .op) f n t (b .result) buf (form p₁ .form-of .ensures) (b .ensures) in (
       pours-then _ buf o e₆ (put-bytes .ensures) ∙ ap (λ (x : List ℕ). pours x o) whole,
       omega (arith, a .pre .1, behind₆ p₆, after-pours buf _ (put-bytes .ensures)),
     )
@@ -150,8 +143,6 @@ put-answer-spec =
     tie.close
     (tie.spec
     form-of-requires
-    number-requires
-    cast-put-le
     put-le-requires
     put-le-requires-2
     put-le-requires-3
