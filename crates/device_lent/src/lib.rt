@@ -1,6 +1,6 @@
-// The device calls over a lent place: "one small record that each device call moves on". Each thin call copies the record out, makes one
-// call of crate device on it by value, and stores the place that came of it back; its contract is that call's, with the record at entry and
-// at exit. What a call came to stands in the record alone (`last`): a read answers its count, and the others answer nothing.
+// A header's write and flush over a lent place: "one small record that each device call moves on". Each thin call copies the record out,
+// makes one call of crate device on it by value, and stores the place that came of it back; its contract is that call's, with the record at
+// entry and at exit. What a call came to stands in the record alone (`last`).
 // `put_header`, the one writer of headers, holds a place by value and lends it on, for callers that do not lend one.
 use device::Geometry;
 use device::Place;
@@ -9,32 +9,10 @@ ghost use mathlib.Core.Path.{_≡_};
 ghost use Prim.Native.Nat.{_≤_, _<_};
 ghost use lib.ListN.{length};
 ghost use Rattle.header.specs.Block.{maxPath, encoded};
-ghost use Rattle.device.specs.Device.{Shape, devBefore, devAfter, flushed, read};
-ghost use Rattle.device.specs.Device.{headerReadM, headerWriteM, dataReadM, dataWriteM, dataTruncateM};
+ghost use Rattle.device.specs.Device.{Shape, devBefore, devAfter, flushed, headerWriteM};
 ghost use Rattle.device_lent.specs.Put.{putM};
 
 // ---- the thin calls
-
-// Reads the slot's header block into a lent one, and answers how many bytes it gave.
-pub fn header_read(
-    bytes: &[u8],
-    phys: &[u64],
-    geometry: Geometry,
-    plan: &[u8],
-    at: &mut Place,
-    slot: usize,
-    into: &mut [u8; 512],
-) -> usize
-    requires { ⌜ Shape geometry (now bytes) (now phys) ⌝ }
-    requires { ⌜ slot < length (now phys) ⌝ }
-    ensures { λ r. ⌜
-        read (now (into .exit)) (record { count = r; place = now (at .exit) })
-        ≡ headerReadM (now (plan .entry)) geometry slot (now (into .entry)) (devBefore bytes phys (now (at .entry))) ⌝ }
-{
-    let got = device::header_read(bytes, phys, geometry, plan, *at, slot, into);
-    *at = got.place;
-    got.count
-}
 
 // Writes the slot's header block.
 pub fn header_write(
@@ -54,69 +32,6 @@ pub fn header_write(
     ensures kept { λ _. ⌜ Shape geometry (now (bytes .exit)) (now (phys .exit)) ⌝ }
 {
     *at = device::header_write(bytes, phys, geometry, plan, *at, slot, block);
-}
-
-// Reads into dst from the file offset on, and answers how many bytes it gave; what dst has past the count stays.
-pub fn data_read(
-    bytes: &[u8],
-    phys: &[u64],
-    geometry: Geometry,
-    plan: &[u8],
-    at: &mut Place,
-    slot: usize,
-    offset: u64,
-    dst: &mut [u8],
-) -> usize
-    requires { ⌜ Shape geometry (now bytes) (now phys) ⌝ }
-    requires { ⌜ slot < length (now phys) ⌝ }
-    ensures { λ r. ⌜
-        read (now (dst .exit)) (record { count = r; place = now (at .exit) })
-        ≡ dataReadM (now (plan .entry)) geometry slot offset (now (dst .entry)) (devBefore bytes phys (now (at .entry))) ⌝ }
-{
-    let got = device::data_read(bytes, phys, geometry, plan, *at, slot, offset, dst);
-    *at = got.place;
-    got.count
-}
-
-// Writes src from the file offset on.
-pub fn data_write(
-    bytes: &mut [u8],
-    phys: &mut [u64],
-    geometry: Geometry,
-    plan: &[u8],
-    at: &mut Place,
-    slot: usize,
-    offset: u64,
-    src: &[u8],
-)
-    requires { ⌜ Shape geometry (now bytes) (now phys) ⌝ }
-    requires { ⌜ slot < length (now phys) ⌝ }
-    ensures same { λ _. ⌜
-        devAfter bytes phys (now (at .exit))
-        ≡ dataWriteM (now (plan .entry)) geometry slot offset (now (src .entry)) (devBefore bytes phys (now (at .entry))) ⌝ }
-    ensures kept { λ _. ⌜ Shape geometry (now (bytes .exit)) (now (phys .exit)) ⌝ }
-{
-    *at = device::data_write(bytes, phys, geometry, plan, *at, slot, offset, src);
-}
-
-// Cuts the slot's file to len bytes, or adds zeros up to them.
-pub fn data_truncate(
-    bytes: &mut [u8],
-    phys: &mut [u64],
-    geometry: Geometry,
-    plan: &[u8],
-    at: &mut Place,
-    slot: usize,
-    len: u64,
-)
-    requires { ⌜ Shape geometry (now bytes) (now phys) ⌝ }
-    requires { ⌜ slot < length (now phys) ⌝ }
-    ensures same { λ _. ⌜
-        devAfter bytes phys (now (at .exit))
-        ≡ dataTruncateM (now (plan .entry)) geometry slot len (devBefore bytes phys (now (at .entry))) ⌝ }
-    ensures kept { λ _. ⌜ Shape geometry (now (bytes .exit)) (now (phys .exit)) ⌝ }
-{
-    *at = device::data_truncate(bytes, phys, geometry, plan, *at, slot, len);
 }
 
 // Flushes a slot.

@@ -1,66 +1,19 @@
--- What holds of the exported calls. A contract says that the outcome is the call's: so there is one, and a refusal leaves the buffer as it was.
+-- What a refusal of an exported call leaves: the buffer as it was. (That there is one outcome is said of the contracts, in promises_tied.)
 use Prim.Native.Nat.{ℕ, _*_, _^_, _<_, _≤_}
-use mathlib.Core.Path.{_≡_, refl, sym, ap, _∙_}
+use mathlib.Core.Path.{_≡_, refl, _∙_}
 use mathlib.Core.Bool.{Bool, true, false, cond, not}
 use mathlib.Core.List.{List}
 use native.Mathlib.Omega.{arith}
 use borrow.Author.Tests.{ltb-false}
 use lib.ListN.{length, take}
-use lib.Dec.{eqb, ltb}
-use Rattle.fnv.specs.Fnv.{fnvFrom}
+use lib.Dec.{ltb}
 use Rattle.le.specs.Le.{laid}
 use Rattle.text.specs.Text.{isText}
 use Rattle.path.specs.Path.{components, hasParent, normal, parentOf}
 use Rattle.header.specs.Block.{blockLen, maxPath, decoded}
 use Rattle.header.specs.declared.Decoded.{Decoded}
 use Rattle.header.specs.declared.Decoded.the-variants.{Absent, Found}
-use Rattle.output.specs.Writer.{Shown, shown, poured}
-use Rattle.script.specs.Script.{scriptM}
-use Rattle.harness.specs.Calls.{Outcome, outcome, refusal, saidOf, encodeCall, decodeCall, textCall, sameCall, spelled, normalCall, parentCall, recordCall, lookupsCall}
-
--- ---- one outcome
-
--- Two outcomes that are both a call's are the same, in the answer and in every byte of the buffer.
-pub one-outcome : (c : Outcome) {r r′ : ℕ} {o o′ : List ℕ} → outcome r o ≡ c → outcome r′ o′ ≡ c → (r ≡ r′) × (o ≡ o′)
-one-outcome c p q = (ap (λ (x : Outcome). x .answer) (p ∙ sym q), ap (λ (x : Outcome). x .out) (p ∙ sym q))
-
--- The same of a call that is lent no buffer.
-pub one-answer : (c : ℕ) {r r′ : ℕ} → r ≡ c → r′ ≡ c → r ≡ r′
-one-answer c p q = p ∙ sym q
-
-module _ {r r′ : ℕ} where
-  pub slot-check-one-outcome : (start : ℕ) (s : List ℕ) → r ≡ fnvFrom start s → r′ ≡ fnvFrom start s → r ≡ r′
-  slot-check-one-outcome start s = one-answer (fnvFrom start s)
-
-  pub text-is-one-outcome : (s : List ℕ) → r ≡ textCall s → r′ ≡ textCall s → r ≡ r′
-  text-is-one-outcome s = one-answer (textCall s)
-
-  pub path-same-one-outcome : (a b : List ℕ) → r ≡ sameCall a b → r′ ≡ sameCall a b → r ≡ r′
-  path-same-one-outcome a b = one-answer (sameCall a b)
-
-  pub record-check-one-outcome : (l n d : List ℕ) (rows dirRows held dirsHeld counter : ℕ) → r ≡ recordCall l n d rows dirRows held dirsHeld counter
-      → r′ ≡ recordCall l n d rows dirRows held dirsHeld counter → r ≡ r′
-  record-check-one-outcome l n d rows dirRows held dirsHeld counter = one-answer (recordCall l n d rows dirRows held dirsHeld counter)
-
-  pub record-lookups-one-outcome : (l n d : List ℕ) (rows dirRows held dirsHeld counter : ℕ) (path : List ℕ) (times : ℕ)
-      → r ≡ lookupsCall l n d rows dirRows held dirsHeld counter path times → r′ ≡ lookupsCall l n d rows dirRows held dirsHeld counter path times → r ≡ r′
-  record-lookups-one-outcome l n d rows dirRows held dirsHeld counter path times = one-answer (lookupsCall l n d rows dirRows held dirsHeld counter path times)
-
-  module _ {o o′ : List ℕ} where
-    pub pool-script-one-outcome : (script out : List ℕ) → shown o r ≡ poured (scriptM script) out → shown o′ r′ ≡ poured (scriptM script) out → (r ≡ r′) × (o ≡ o′)
-    pool-script-one-outcome script out p q = (ap (λ (x : Shown). x .at) (p ∙ sym q), ap (λ (x : Shown). x .out) (p ∙ sym q))
-
-    pub header-encode-one-outcome : (u l g : ℕ) (path out : List ℕ) → outcome r o ≡ encodeCall u l g path out → outcome r′ o′ ≡ encodeCall u l g path out → (r ≡ r′) × (o ≡ o′)
-    header-encode-one-outcome u l g path out = one-outcome (encodeCall u l g path out)
-
-    pub header-decode-one-outcome : (block out : List ℕ) → outcome r o ≡ decodeCall block out → outcome r′ o′ ≡ decodeCall block out → (r ≡ r′) × (o ≡ o′)
-    header-decode-one-outcome block out = one-outcome (decodeCall block out)
-
-    pub path-normal-one-outcome : (path out : List ℕ) → outcome r o ≡ normalCall path out → outcome r′ o′ ≡ normalCall path out → (r ≡ r′) × (o ≡ o′)
-    path-normal-one-outcome path out = one-outcome (normalCall path out)
-
-    pub path-parent-one-outcome : (path out : List ℕ) → outcome r o ≡ parentCall path out → outcome r′ o′ ≡ parentCall path out → (r ≡ r′) × (o ≡ o′)
-    path-parent-one-outcome path out = one-outcome (parentCall path out)
+use Rattle.harness.specs.Calls.{Outcome, outcome, refusal, saidOf, encodeCall, decodeCall, spelled, normalCall, parentCall}
 
 -- ---- a refusal leaves the buffer as it was
 

@@ -6,5 +6,7 @@ pub mod Facts
 pub mod Face
 -- of specs/Flat.antt,
 pub mod Flat
+-- of specs/SlotCalls.antt,
+pub mod SlotCalls
 -- and of specs/Exports.antt.
 pub mod Exports

@@ -6,5 +6,7 @@ pub mod Decided
 pub mod Face
 -- The contract of `calls::make`.
 pub mod Flat
+-- The contract of each slot call.
+pub mod SlotCalls
 -- The contract of each exported call.
 pub mod Exports
