@@ -145,8 +145,8 @@ fn ask(
     requires { ⌜ Held (now script) op ⌝ }
     ensures { λ r. ⌜
         came (numberOf (r .answer)) (r .told) (after bytes phys (r .place) nums names dirs (r .pool)) (now (buf .exit))
-        ≡ callP (now (plan .entry)) geometry (callOf op) (runIn (now (script .entry)) (op .first)) (runIn (now (script .entry)) (op .second))
-        (now (buf .entry)) (before bytes phys place nums names dirs pool) ⌝ }
+        ≡ callP (now (plan .entry)) geometry (callOf op) (runIn (now (script .entry)) (op .first))
+        (runIn (now (script .entry)) (op .second)) (now (buf .entry)) (before bytes phys place nums names dirs pool) ⌝ }
 {
     let call = call_of(op);
     let first = op.first;
