@@ -5,7 +5,7 @@
 --
 -- What it says of the section with the basement that nobody built: two slots claim one tile's name, the raw tile and, under a higher
 -- generation, the cleaned one. The cleaned tile is what every mount binds to the name, in one part or in two, whatever fails while the
--- raw one is released, and at the next mount too. (P2 in Edges has the two slots alone.)
+-- raw one is released, and at the next mount too. (Incident has the two slots alone, end to end.)
 use Prim.Native.Nat.{ℕ, _+_, _≤_}
 use mathlib.Core.Path.{_≡_}
 use mathlib.Core.Logic.{_⊎_}
