@@ -12,3 +12,15 @@ pub mod OnPath
 pub mod Numbers
 -- The proofs of what specs/Promises.antt states of every call at once.
 pub mod Promises
+-- No call that passes the tests comes to 1 or 2, call by call.
+pub mod Heard
+-- What every call comes to: a number, and the numbers of so many rows, call by call.
+pub mod Ends
+-- A refusal is given before any write, call by call: `a-refusal-changes-nothing`.
+pub mod Refusals
+-- What may become of a row, so that no stale handle comes back, and so that each live one stays;
+pub mod Fates
+-- what each inner call makes of the rows;
+pub mod InnerOnward
+-- and so of every call.
+pub mod Onward

@@ -18,10 +18,10 @@ use Rattle.pool_state.specs.Changes.{withDirs}
 use Rattle.pool_state.specs.Reads.{pool-reads}
 use Rattle.pool_test.specs.Test.{isPool}
 use Rattle.pool_test.proofs.Exactly.{is-pool-of}
-use Rattle.pool_steps.specs.World.{World, world, Lent, lent, viewW, flatW, Fit, Ready}
+use Rattle.pool_steps.specs.World.{World, world, Lent, viewW, flatW, Fit, Ready}
 use Rattle.pool_steps.proofs.Stays.{ready-fit, world-is}
 use Rattle.pool_steps.proofs.Numbers.{either}
-use Rattle.mount.specs.Mount.{adoptM, mountM, mounted}
+use Rattle.mount.specs.Mount.{mountM, mounted}
 use Rattle.mount.proofs.Stays.{adopt-valid, mount-valid}
 use Rattle.pool_steps.specs.Outcome.{Outcome, outcome, None, flatO}
 use Rattle.inner_handle.specs.Handles.{Filling, isLive, readPart, readAtM}
@@ -34,7 +34,7 @@ use Rattle.calls_gate.specs.declared.Answer.{Answer}
 use Rattle.calls_gate.specs.declared.Call.{Call}
 use Rattle.calls_gate.specs.declared.Call.the-variants.{Mount, Adopt, OpenWrite, OpenRead, ReadAt, WriteAt, SetLen, FileLen}
 use Rattle.calls_gate.specs.declared.Call.the-variants.{Sync, SyncDir, Rename, RemoveFile, CreateDirAll, ReadDir, Exists, Metadata}
-use Rattle.calls_gate.specs.Answers.{numberOf, answerOf, answer-back}
+use Rattle.calls_gate.specs.Answers.{answerOf, answer-back}
 use Rattle.calls_gate.specs.Replies.{Came}
 use Rattle.calls_gate.specs.Table.{takesOf, slotRows, dirRows, chosenOf, rowsB, mountable, refusalOf, refusedB}
 use Rattle.calls_gate.proofs.Passed.{passed, is-ready, mounts-on, text-of}

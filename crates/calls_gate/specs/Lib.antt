@@ -11,3 +11,5 @@ pub mod Table
 pub mod Calls
 -- What is promised of every call at once.
 pub mod Promises
+-- What a refusal leaves of everything lent: 01's column "Left behind".
+pub mod Refusals

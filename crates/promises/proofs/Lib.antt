@@ -8,9 +8,7 @@ pub mod Face
 pub mod Total
 -- Demand 3.
 pub mod Demand3
--- No call that passes the tests comes to 1 or 2,
-pub mod Heard
--- and a pool stays a pool.
+-- A pool stays a pool.
 pub mod Stays
 -- Table P: P1, P4 and P5, which a call on a pool decides;
 pub mod Calls

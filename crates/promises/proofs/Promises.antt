@@ -1,7 +1,7 @@
 -- All that specs/Promises.antt promises.
 use Rattle.calls_gate.proofs.Promises.{looks-leave}
 use Rattle.promises_calls.proofs.Keeps.{mount-keeps-bytes}
-use Rattle.promises_calls.proofs.Refusals.{a-refusal-changes-nothing}
+use Rattle.calls_gate.proofs.Refusals.{a-refusal-changes-nothing}
 use Rattle.promises_calls.proofs.Blank.{blank-card}
 use Rattle.promises_calls.proofs.Written.{what-was-written-is-read}
 use Rattle.promises_calls.proofs.Synced.{what-was-synced-is-found}

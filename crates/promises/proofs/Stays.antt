@@ -26,7 +26,7 @@ use Rattle.pool.specs.Face.{Asked, Left, lentOf, Entered}
 use Rattle.promises.specs.Face.{number, leftOf, held, heldBefore, FaceIsFlat}
 use Rattle.promises.specs.Stays.{Follows, APoolStaysAPool, AMountMakesAPool}
 use Rattle.promises.proofs.Face.{face-is-flat}
-use Rattle.promises.proofs.Heard.{Heard, inner-heard}
+use Rattle.calls_gate.proofs.Heard.{Heard, inner-heard}
 
 -- ---- neither 1 nor 2 on a pool with its device
 

@@ -7,7 +7,7 @@
 -- promises_tied; examples in which the premises hold are computed in crate promises_witness, and beside the statements of "the rest".
 use Rattle.calls_gate.specs.Promises.{LooksLeave}
 use Rattle.promises_calls.specs.Mounts.{MountKeepsBytes}
-use Rattle.promises_calls.specs.Refusals.{ARefusalChangesNothing}
+use Rattle.calls_gate.specs.Refusals.{ARefusalChangesNothing}
 use Rattle.promises_calls.specs.Blank.{BlankCard}
 use Rattle.promises_calls.specs.Bytes.{WhatWasWrittenIsRead, WhatWasSyncedIsFound}
 use Rattle.promises_handles.specs.Handles.{StaleGetsSix, OpensGive, ReopenKeeps, RemoveMakesStale, RenameMakesStale, DoneRenameHasPut}

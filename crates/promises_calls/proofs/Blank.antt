@@ -31,10 +31,10 @@ use Rattle.calls_gate.specs.declared.Call.the-variants.{Mount}
 use Rattle.calls_gate.specs.Table.{chosenOf, mountable}
 use Rattle.calls_gate.specs.Replies.{Came}
 use Rattle.calls_gate.specs.Calls.{callP}
-use Rattle.promises_calls.specs.Refusals.{movedBy}
+use Rattle.calls_gate.specs.Refusals.{movedBy}
 use Rattle.promises_calls.specs.Blank.{Blank, Ample, Fresh, BlankCard}
 use Rattle.calls_gate.proofs.Inward.{mount-call, mount-fits, mount-accepted, mount-left}
-use Rattle.promises_calls.proofs.Refusals.{reads-place}
+use Rattle.calls_gate.proofs.Refusals.{reads-place}
 
 -- ---- what is read
 

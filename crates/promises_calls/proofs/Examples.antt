@@ -48,13 +48,13 @@ use Rattle.calls_gate.specs.Table as Ta
 use Rattle.calls_gate.specs.Table.{mountable, unmounted}
 use Rattle.calls_gate.specs.Replies.{Came}
 use Rattle.calls_gate.specs.Calls.{innerM, callP}
-use Rattle.promises_calls.specs.Refusals as Re
-use Rattle.promises_calls.specs.Refusals.{IsRefusal, LeftBehind}
+use Rattle.calls_gate.specs.Refusals as Re
+use Rattle.calls_gate.specs.Refusals.{IsRefusal, LeftBehind}
 use Rattle.promises_calls.specs.Bytes.{rowIn, Written}
 use Rattle.promises_calls.specs.Blank.{Blank, Ample, Fresh}
 use Rattle.calls_gate.proofs.Inward.{on-pool, mount-call, mount-held}
 use Rattle.promises_calls.proofs.Keeps.{mount-keeps-bytes}
-use Rattle.promises_calls.proofs.Refusals.{a-refusal-changes-nothing}
+use Rattle.calls_gate.proofs.Refusals.{a-refusal-changes-nothing}
 use Rattle.promises_calls.proofs.Written.{what-was-written-is-read}
 use Rattle.promises_calls.proofs.Synced.{what-was-synced-is-found}
 use Rattle.promises_calls.proofs.Blank.{blank-card}

@@ -3,8 +3,6 @@
 
 -- A slot that is bound after releases in a row has kept its bytes: `mount-keeps-bytes`.
 pub mod Keeps
--- A refusal is given before any write, call by call: `a-refusal-changes-nothing`.
-pub mod Refusals
 -- What a write stored lies in the slot's part, and a read of it gives it: `what-was-written-is-read`.
 pub mod Written
 -- A header that was put whole is the slot's block: `what-was-synced-is-found`.

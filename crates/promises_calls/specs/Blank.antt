@@ -17,7 +17,7 @@ use Rattle.calls_gate.specs.declared.Call.the-variants.{Mount}
 use Rattle.calls_gate.specs.Table.{slotRows, mountable}
 use Rattle.calls_gate.specs.Replies.{Came}
 use Rattle.calls_gate.specs.Calls.{callP}
-use Rattle.promises_calls.specs.Refusals.{movedBy}
+use Rattle.calls_gate.specs.Refusals.{movedBy}
 
 -- Slot i has no valid header: it was never written, or is full of zeros, or holds anything else that is none.
 abbrev pub Blank : Geometry → Dev → ℕ → Type 0

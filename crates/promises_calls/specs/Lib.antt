@@ -3,8 +3,6 @@
 
 -- What a mount and an adoption leave on the card: the bytes of every file that they leave.
 pub mod Mounts
--- What a refusal leaves of everything lent: 01's column "Left behind".
-pub mod Refusals
 -- A blank card: what a mount of slots that hold no header comes to.
 pub mod Blank
 -- What was written is read, and what was synced is found.

@@ -33,9 +33,10 @@ use Rattle.calls_gate.specs.Table.{takesOf, textIf}
 use Rattle.calls_gate.specs.Calls.{quiet, filled, innerM, callP}
 use Rattle.calls_gate.proofs.Passed.{passed, text-of}
 use Rattle.promises_handles.specs.Handles.{poolIn, TellsLive, StaleGetsSix, OpensGive}
-use Rattle.promises_handles.proofs.Fates.{live-is, steady-live}
+use Rattle.calls_gate.proofs.Fates.{live-is, steady-live}
 use Rattle.promises_handles.proofs.InnerSteady.{resize-steady}
-use Rattle.promises_handles.proofs.Theorems.{went-in, fits}
+use Rattle.promises_handles.proofs.Theorems.{went-in}
+use Rattle.calls_gate.proofs.Onward.{fits}
 use Rattle.calls_gate.proofs.Inward.{goes-in, on-pool}
 
 -- ---- calls on a handle

@@ -1,9 +1,5 @@
--- The argument, in its order.
+-- The argument, in its order. What every call makes of the rows is in calls_gate (Fates, InnerOnward, Onward).
 
--- What may become of a row, so that no stale handle comes back, and so that each live one stays.
-pub mod Fates
--- What each inner call makes of the rows: no stale handle comes back.
-pub mod InnerOnward
 -- Which inner calls leave each live handle live, and which make a handle stale.
 pub mod InnerSteady
 -- The same of the public calls, and so the statements.

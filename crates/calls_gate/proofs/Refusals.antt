@@ -32,15 +32,15 @@ use Rattle.inner_open.specs.Files.{isFile, noHandle, openReadM, reopenM, create
 use Rattle.inner_rename.specs.Rename.{frontM, rebindM, vacatedM, settledM, renamedM, renameM}
 use Rattle.inner_dirs.specs.Folders.{isDir, flatB, tooLong, createDirAllM, existsM, metadataM, isDue, syncOneM, syncEachM, syncDirM}
 use Rattle.inner_list.specs.Listing.{listingOf, Listing, listing, fitted, readDirM}
 use Rattle.calls_gate.specs.declared.Call.{Call}
 use Rattle.calls_gate.specs.declared.Call.the-variants.{Mount, Adopt, OpenWrite, OpenRead, ReadAt, WriteAt, SetLen, FileLen}
 use Rattle.calls_gate.specs.declared.Call.the-variants.{Sync, SyncDir, Rename, RemoveFile, CreateDirAll, ReadDir, Exists, Metadata}
 use Rattle.calls_gate.specs.Replies.{telling, nothing, Came, came}
 use Rattle.calls_gate.specs.Table.{takesOf, chosenOf, holdsPool, mountable, textIf, unmounted, refusalOf, refusedB}
 use Rattle.calls_gate.specs.Calls.{quiet, opened, reading, filled, measured, made, listed, described, innerM, refusedM}
 use Rattle.calls_gate.proofs.Passed.{is-ready, mounts-on}
-use Rattle.promises_calls.specs.Refusals.{IsRefusal, afterHeaders, takesIn, readsMade, movedBy, LeftBehind, ARefusalChangesNothing}
+use Rattle.calls_gate.specs.Refusals.{IsRefusal, afterHeaders, takesIn, readsMade, movedBy, LeftBehind, ARefusalChangesNothing}
 use Rattle.calls_gate.proofs.Inward.{by-table}
 
 -- ---- the number that a device call comes to
 

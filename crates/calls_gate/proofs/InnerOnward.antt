@@ -31,7 +31,7 @@ use Rattle.inner_handle.proofs.Stays.{on-handle}
 use Rattle.inner_open.specs.Files.{isFile, registers, binds, Handle, reopenM, created, createM, admitsNew, openNewM, openWriteM, removeM}
 use Rattle.inner_rename.specs.Rename.{frontM, rebindM, vacatedM, settledM, renamedM, renameM}
 use Rattle.inner_dirs.specs.Folders.{tooLong, createDirAllM, isDue, syncOneM, syncEachM, syncDirM}
-use Rattle.promises_handles.proofs.Fates.{Onward, onward-same, onward-then, onward-put, onward-more, resized-fate}
+use Rattle.calls_gate.proofs.Fates.{Onward, onward-same, onward-then, onward-put, onward-more, resized-fate}
 
 -- ---- on pools
 
