@@ -24,3 +24,7 @@ pub mod Fates
 pub mod InnerOnward
 -- and so of every call.
 pub mod Onward
+-- Which inner calls leave each live handle live, and which make a handle stale.
+pub mod InnerSteady
+-- Opens and handles: each live one stays, and one that is told is live.
+pub mod Opens

@@ -16,8 +16,8 @@ use Rattle.pool_steps.specs.Outcome.{flatO}
 use Rattle.pool_steps.proofs.Numbers.{either}
 use Rattle.inner_handle.specs.Handles.{isLive}
 use Rattle.inner_handle.proofs.Stays.{live-means}
-use Rattle.inner_open.specs.Files.{openWriteM, removeM}
-use Rattle.inner_open.proofs.Stays.{open-write-fit, remove-fit}
+use Rattle.inner_open.specs.Files.{removeM}
+use Rattle.inner_open.proofs.Stays.{remove-fit}
 use Rattle.inner_rename.specs.Rename.{rebindM, renameM}
 use Rattle.inner_rename.proofs.Stays.{rename-fit}
 use Rattle.calls_gate.specs.declared.Call.{Call}
@@ -29,11 +29,13 @@ use Rattle.calls_gate.specs.Calls.{innerM, refusedM, callP}
 use Rattle.calls_gate.proofs.Passed.{passed, text-of}
 use Rattle.calls_gate.proofs.Inward.{by-table, goes-in}
 use Rattle.calls_gate.proofs.Onward.{by-gate, fits, call-onward}
-use Rattle.promises_handles.specs.Handles.{poolIn, IsLive, IsStale, GivenOut, fileSlot, NotRefused, Coming, afterAll, NoMount}
+use Rattle.calls_gate.proofs.Opens.{open-keeps}
+use Rattle.promises_handles.specs.Handles.{poolIn, IsLive, IsStale, GivenOut, fileSlot, Coming, afterAll, NoMount}
+use Rattle.calls_gate.specs.Refusals.{NotRefused}
 use Rattle.promises_handles.specs.Handles.{ReopenKeeps, RemoveMakesStale, RenameMakesStale, DoneRenameHasPut}
 use Rattle.promises_handles.specs.Handles.{FailedRenameKeeps, StaleStays, StaleForGood}
 use Rattle.calls_gate.proofs.Fates.{onward-stale, Steady, steady-live}
-use Rattle.promises_handles.proofs.InnerSteady.{open-write-steady, rename-steady, refuses, remove-stale, rename-put, rename-stale}
+use Rattle.calls_gate.proofs.InnerSteady.{rename-steady, refuses, remove-stale, rename-put, rename-stale}
 
 -- ---- a public call
 
@@ -110,15 +112,10 @@ module _ (plan : List ℕ) (g : Geometry) (one two buf : List ℕ) (l : Lent) wh
       (steady-live (poolIn l .rows) (w .state .rows) slot generation a live)
 
 pub reopen-keeps : ReopenKeeps
-unfolding takesOf innerM flatO flatW viewW
+unfolding takesOf
 reopen-keeps plan g how path two buf l slot generation live =
     by-gate plan g (OpenWrite how) path two buf l (λ (x : Lent). IsLive x slot generation) refl live
-    (λ z.
-    let f = fits plan g path two buf l (OpenWrite how) z refl in
-    let t = passed g (OpenWrite how) path two l z refl in
-    laid-live plan g path two buf l (openWriteM plan g path (how .keep) (viewW l) .left)
-    (open-write-fit plan g (viewW l) f path (how .keep) (text-of path (t .2)))
-    (open-write-steady plan g path (how .keep) (viewW l) (f .valid)) slot generation live)
+    (λ z. open-keeps plan g path two buf l how z slot generation live)
 
 pub failed-rename-keeps : FailedRenameKeeps
 unfolding takesOf innerM flatO flatW viewW rebindM

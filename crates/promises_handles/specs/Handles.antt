@@ -23,6 +23,7 @@ use Rattle.calls_gate.specs.declared.Opening.{Opening}
 use Rattle.calls_gate.specs.Table.{takesOf}
 use Rattle.calls_gate.specs.Replies.{nothing, Came, came}
 use Rattle.calls_gate.specs.Calls.{callP}
+use Rattle.calls_gate.specs.Refusals.{NotRefused}
 
 -- ---- a handle
 
@@ -46,10 +47,6 @@ pub record GivenOut (l : Lent) (slot generation : ℕ) : Type 0 where
 -- The slot of a path. Where no file has it, it is the count of the slots, of which no handle is live.
 abbrev pub fileSlot : List ℕ → Lent → ℕ
 fileSlot path l = find path (poolIn l .rows)
-
--- A call that was not refused: it is done, or a device call failed, or a write stored too little.
-abbrev pub NotRefused : ℕ → Type 0
-NotRefused n = (n ≡ 0) ⊎ ((n ≡ 10) ⊎ (n ≡ 11))
 
 -- ---- what a handle is good for
 

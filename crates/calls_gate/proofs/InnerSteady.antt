@@ -36,9 +36,9 @@ use Rattle.inner_rename.specs.declared.Course.{Course}
 use Rattle.inner_rename.specs.Rename.{stopped, needs, frontM, rebindM, vacatedM, settledM, renamedM, renameM}
 use Rattle.inner_rename.proofs.PartsStay.{vacated-stays, rebound}
 use Rattle.inner_rename.proofs.Stays.{Goes, front-means}
-use Rattle.promises_handles.specs.Handles.{NotRefused}
+use Rattle.calls_gate.specs.Refusals.{NotRefused}
 use Rattle.calls_gate.proofs.Fates.{unbound-stale, renewed-stale, same-stale}
 use Rattle.calls_gate.proofs.Fates.{Steady, steady-same, steady-put, resized-lasts}
 
 -- ---- each live handle stays
 
