@@ -19,7 +19,7 @@ use Rattle.device.specs.Device as D
 use Rattle.device.specs.Slots as Sl
 use Rattle.slot_rows.specs.Rows as R
 use Rattle.dir_rows.specs.Dirs as Di
-use Rattle.pool_steps.specs.World.{Lent}
+use Rattle.pool_steps.specs.World.{Lent, Ready}
 use Rattle.pool_steps.specs.Outcome.{Outcome, None}
 use Rattle.pool_steps.specs.Steps as St
 use Rattle.mount_survey.specs.Heads.{claim}
@@ -28,18 +28,22 @@ use Rattle.mount_survey.specs.Survey as S
 use Rattle.mount.specs.Mount.{mounted, emptyState}
 use Rattle.mount.specs.Mount as M
 use Rattle.calls_gate.specs.declared.Call.the-variants.{Mount, Adopt}
+use Rattle.calls_gate.specs.Table.{takesOf}
 use Rattle.pool.specs.Face.{Asked, Left, Entered}
-use Rattle.promises_mount.specs.Words.{Untouched, NoneFails}
+use Rattle.promises_mount.specs.Words.{Untouched, Faultless, NoneFails}
 use Rattle.promises_mount.specs.Words as W
 use Rattle.promises_mount.specs.Mounts.{Trial, whole, firstPart, QuietWhole, QuietBoth}
-use Rattle.promises.specs.Face.{devOf, EveryCallEnds, asking, askNext}
-use Rattle.promises.specs.Demand3.{Ways, Premises}
+use Rattle.promises.specs.Face.{number, devOf, leftOf, EveryCallEnds, asking, askNext}
+use Rattle.promises.specs.Demand3.{MountRule, FaultlessIsQuiet, Demand3, Ways, Premises}
+use Rattle.promises.specs.Stays.{APoolStaysAPool, AMountMakesAPool}
 use Rattle.promises.specs.Edges.{Mounting, head}
 use Rattle.promises.proofs.Mounting.{mounted-dev}
 use Rattle.promises.proofs.Face.{flatly, mount-is}
 use Rattle.promises.proofs.Total.{every-call-ends}
-use Rattle.promises.proofs.Demand3.{quiet-one, quiet-two}
+use Rattle.promises.proofs.Demand3.{quiet-one, quiet-two, mount-rule, demand-3, faultless-is-quiet}
+use Rattle.promises.proofs.Stays.{a-pool-stays-a-pool, a-mount-makes-a-pool}
 use Rattle.promises_witness.specs.TwoClaims.{start, small, claiming, failing, trial, rows, TwoTilesMet, Demand3Met}
+use Rattle.promises_witness.specs.TwoClaims.{MountRuleMet, APoolIsMade, APoolStays, FaultlessMet}
 
 abbrev t : Trial
 t = trial
@@ -194,3 +198,38 @@ two-tiles-met = (
     no-third = no-third;
   },
 )
+
+-- ---- the rule, pools, and a plan without faults
+
+pub mount-rule-met : MountRuleMet
+unfolding MountRuleMet MountRule
+mount-rule-met =
+    (first, ended first .0, mount-rule first 2 (ended first .0) (ended first .1) refl (premises .reads-one) (premises .accepted))
+
+second-done : number (ended second .0) ≡ 0
+unfolding Demand3
+second-done = demand-3 t ways premises .0 .two-accepted
+
+second-ready : Ready small (leftOf (ended second .0))
+unfolding AMountMakesAPool takesOf
+second-ready = a-mount-makes-a-pool second (ended second .0) (ended second .1) refl second-done
+
+pub a-pool-is-made : APoolIsMade
+unfolding APoolIsMade
+a-pool-is-made = (second, ended second .0, second-done, second-ready)
+
+pub a-pool-stays : APoolStays
+unfolding APoolStays APoolStaysAPool takesOf
+a-pool-stays =
+    (third, ended third .0, second-ready,
+    a-pool-stays-a-pool third (ended third .0) (ended third .1) second-ready (λ e. absurd (false≢true e)) .0)
+
+no-fault : Faultless [] start
+unfolding Faultless
+no-fault j = (λ e. omega (arith, e), λ e. omega (arith, e))
+
+pub faultless-met : FaultlessMet
+unfolding FaultlessMet FaultlessIsQuiet
+faultless-met =
+    let x = asking small cardAt [] rows (Mount 2) in
+    (x, no-fault, faultless-is-quiet x 0 2 (omega arith) no-fault .1)

@@ -2,17 +2,20 @@
 -- release fails.
 use Prim.Native.Nat.{ℕ, _*_}
 use mathlib.Core.List.{List, [], _∷_, _++_}
-use mathlib.Core.Path.{refl}
+use mathlib.Core.Path.{_≡_, refl}
 use lib.ListN.{replicate, length-replicate}
 use Rattle.header.specs.Block.{boundHeader, encoded}
 use Rattle.device.specs.declared.Place.{Place}
 use Rattle.device.specs.declared.Geometry.{Geometry}
 use Rattle.slot_records.specs.Records.{none}
 use Rattle.pool_state.specs.State.{choosing}
+use Rattle.pool_steps.specs.World.{Ready}
 use Rattle.mount.specs.Mount.{zeroPool}
+use Rattle.pool.specs.Face.{Asked, Left, lentOf}
+use Rattle.promises_mount.specs.Words.{Faultless}
 use Rattle.promises_mount.specs.Mounts.{Trial}
-use Rattle.promises.specs.Face.{Lending}
-use Rattle.promises.specs.Demand3.{Ways, Premises, QuietOne, QuietTwo}
+use Rattle.promises.specs.Face.{Lending, number, leftOf}
+use Rattle.promises.specs.Demand3.{Mounted, QuietMount, Ways, Premises, QuietOne, QuietTwo}
 use Rattle.promises.specs.Edges.{Mounting, Accepted}
 use Rattle.promises.specs.Incident.{TwoTiles}
 
@@ -70,3 +73,19 @@ TwoTilesMet = (m : Mounting) × Accepted m × TwoTiles m
 -- The premises of demand 3 hold of it, and a release fails in either way.
 unfoldable pub Demand3Met : Type 0
 Demand3Met = (w : Ways trial) × Premises trial w × (QuietOne trial w → ⊥) × (QuietTwo trial w → ⊥)
+
+-- The rule's premises are met by the one mount, so the rule holds of it.
+unfoldable pub MountRuleMet : Type 0
+MountRuleMet = (x : Asked) × (y : Left) × Mounted x 2 y
+
+-- A mount that is done: of the first slot; it makes a pool on its device.
+unfoldable pub APoolIsMade : Type 0
+APoolIsMade = (x : Asked) × (y : Left) × (number y ≡ 0) × Ready (x .geometry) (leftOf y)
+
+-- A call on a pool with its device: the adoption of the second slot, whose release fails; it leaves a pool on its device.
+unfoldable pub APoolStays : Type 0
+APoolStays = (x : Asked) × (y : Left) × Ready (x .geometry) (lentOf x) × Ready (x .geometry) (leftOf y)
+
+-- A plan with no byte 1 or 2: no release of the mount under it fails.
+unfoldable pub FaultlessMet : Type 0
+FaultlessMet = (x : Asked) × Faultless (x .plan) (x .at) × QuietMount x 2
