@@ -2,35 +2,34 @@
 -- by call, what is then left is what was lent.
 use Prim.Native.Nat.{ℕ, zero, suc, _+_}
 use mathlib.Core.Path.{_≡_, refl, sym, ap, _∙_}
-use mathlib.Core.Logic.{_≢_, _⊎_, inl, inr}
+use mathlib.Core.Logic.{_≢_, inl, inr}
 use mathlib.Core.Bool.{Bool, true, false, cond, _||_, false≢true}
-use mathlib.Core.List.{List, [], _∷_}
+use mathlib.Core.List.{List, []}
 use lib.Dec.{eqb, ltb, leb}
 use lib.ListN.{length, getD}
 use borrow.Author.Tests.{ne-eqb}
 use Rattle.limits.specs.Limits.{maxPath, lastCounter}
-use Rattle.lists.specs.Runs.{range}
 use Rattle.device.specs.declared.Geometry.{Geometry}
-use Rattle.device.specs.Device.{Dev, turn, onward, short, stores, stops, given, seen, flushed, flushM, writeM, headerWriteM, dataWriteM}
-use Rattle.device.specs.Device.{truncateM, dataTruncateM, readM, dataReadM}
+use Rattle.device.specs.Device.{Dev, turn, onward, given, flushM}
 use Rattle.slot_rows.specs.Rows.{at, genOf, isDirty, lenOf, find}
 use Rattle.dir_rows.specs.Dirs.{hasPath, registeredWith}
 use Rattle.pool_state.specs.State.{State, Bufs, view, flat, IsPool}
 use Rattle.pool_test.specs.Test.{isPool}
 use Rattle.pool_steps.specs.World.{World, world, Lent, lent, viewW, flatW}
-use Rattle.pool_steps.specs.Steps.{putM, freeBlock, freeM, releaseM, rowBlock, syncRowM}
+use Rattle.pool_steps.specs.Steps.{releaseM, syncRowM}
 use Rattle.pool_steps.specs.Outcome.{Outcome, outcome, None, only, byDevice, flatO}
-use Rattle.pool_steps.proofs.Stays.{then-keeps}
-use Rattle.pool_steps.proofs.Numbers.{either}
+use Rattle.pool_steps.proofs.Numbers.{LastO, LastW, either, cut-last, flush-last, read-last, release-last, store-last, sync-row-last}
 use Rattle.mount_survey.specs.Heads.{headOf, Reads, behind, looked, readsM}
 use Rattle.mount_survey.specs.Survey.{Survey, scan}
 use Rattle.mount.specs.Mount.{begin, moved, settle, afterReads, tooMany, adoptM, emptyState, mountM, zeroBufs, mounted}
 use Rattle.mount.proofs.Stays.{adopt-refused}
-use Rattle.inner_handle.specs.Handles.{isLive, onHandle, Filling, filling, fileLenM, readPart, readAtM, resizedM, writeAtM, setLenM, syncM}
+use Rattle.inner_handle.specs.Handles.{isLive, onHandle, filling, fileLenM, readPart, readAtM, resizedM, writeAtM, setLenM, syncM}
 use Rattle.inner_handle.proofs.Stays.{stays}
 use Rattle.inner_open.specs.Files.{isFile, noHandle, openReadM, reopenM, createM, admitsNew, openNewM, openWriteM, removeM}
-use Rattle.inner_rename.specs.Rename.{frontM, rebindM, vacatedM, settledM, renamedM, renameM}
-use Rattle.inner_dirs.specs.Folders.{isDir, flatB, tooLong, createDirAllM, existsM, metadataM, isDue, syncOneM, syncEachM, syncDirM}
+use Rattle.inner_rename.proofs.Numbers.{renamed-last}
+use Rattle.inner_dirs.proofs.Stays.{sync-dir-last}
+use Rattle.inner_rename.specs.Rename.{frontM, renameM}
+use Rattle.inner_dirs.specs.Folders.{isDir, flatB, tooLong, createDirAllM, existsM, metadataM, syncDirM}
 use Rattle.inner_list.specs.Listing.{listingOf, Listing, listing, fitted, readDirM}
 use Rattle.calls_gate.specs.declared.Call.{Call}
 use Rattle.calls_gate.specs.declared.Call.the-variants.{Mount, Adopt, OpenWrite, OpenRead, ReadAt, WriteAt, SetLen, FileLen}
@@ -39,66 +38,15 @@ use Rattle.calls_gate.specs.Replies.{telling, nothing, Came, came}
 use Rattle.calls_gate.specs.Table.{takesOf, chosenOf, holdsPool, mountable, textIf, unmounted, refusalOf, refusedB}
 use Rattle.calls_gate.specs.Calls.{quiet, opened, reading, filled, measured, made, listed, described, innerM, refusedM}
 use Rattle.calls_gate.proofs.Passed.{is-ready, mounts-on}
-use Rattle.calls_gate.specs.Refusals.{IsRefusal, afterHeaders, takesIn, readsMade, movedBy, LeftBehind, ARefusalChangesNothing}
+use Rattle.calls_gate.specs.Refusals.{IsRefusal, NotRefused, afterHeaders, takesIn, readsMade, movedBy, LeftBehind, ARefusalChangesNothing}
 use Rattle.calls_gate.proofs.Inward.{by-table}
 
 -- ---- the number that a device call comes to
 
--- 0, 10 or 11: no refusal.
-abbrev Settles : ℕ → Type 0
-Settles n = (n ≡ 0) ⊎ ((n ≡ 10) ⊎ (n ≡ 11))
-
-no-refusal : (n : ℕ) → Settles n → IsRefusal n → ⊥
+no-refusal : (n : ℕ) → NotRefused n → IsRefusal n → ⊥
 no-refusal n (inl e) r = r .0 e
 no-refusal n (inr (inl e)) r = r .1 e
 no-refusal n (inr (inr e)) r = r .2 e
-
-abbrev Last : Dev → Type 0
-Last d = Settles (d .place .last)
-
-done-or-failed : (t : Bool) → Settles (cond t 10 0)
-done-or-failed t = either Settles t (inr (inl refl)) (inl refl)
-
-module _ (plan : List ℕ) (g : Geometry) where
-  write-last : (slot pos : ℕ) (src : List ℕ) (d : Dev) → Last (writeM plan g slot pos src d)
-  unfolding writeM onward short
-  write-last slot pos src d =
-      either Last (eqb (turn plan (d .place)) 1) (inr (inl refl))
-      (either Last (ltb (g .size) pos) (inr (inl refl))
-      (either Settles (ltb (stores (turn plan (d .place)) (g .size) pos (length src)) (length src)) (inr (inr refl)) (inl refl)))
-
-  flush-last : (d : Dev) → Last (flushM plan d)
-  unfolding flushM flushed onward
-  flush-last d = done-or-failed (stops (turn plan (d .place)))
-
-  cut-last : (slot len : ℕ) (d : Dev) → Last (dataTruncateM plan g slot len d)
-  unfolding dataTruncateM truncateM onward
-  cut-last slot len d =
-      either Last (stops (turn plan (d .place))) (inr (inl refl)) (either Last (ltb (g .size) (512 + len)) (inr (inl refl)) (inl refl))
-
-  store-last : (slot pos : ℕ) (src : List ℕ) (d : Dev) → Last (dataWriteM plan g slot pos src d)
-  unfolding dataWriteM
-  store-last slot pos src d = write-last slot (512 + pos) src d
-
-  read-last : (slot pos : ℕ) (dst : List ℕ) (d : Dev) → Settles (dataReadM plan g slot pos dst d .got .place .last)
-  unfolding dataReadM readM seen onward
-  read-last slot pos dst d = done-or-failed (eqb (turn plan (d .place)) 1)
-
-  put-last : (slot : ℕ) (block : List ℕ) (d : Dev) → Last (putM plan g slot block d)
-  unfolding putM headerWriteM
-  put-last slot block d =
-      let e = headerWriteM plan g slot block d in
-      then-keeps Last e (flushM plan) (write-last slot 0 block d) (flush-last e)
-
-  release-last : (i : ℕ) (w : World) → Last (releaseM plan g i w .dev)
-  unfolding releaseM freeM
-  release-last i w =
-      let d = putM plan g i (freeBlock (w .state .counter)) (w .dev) in
-      then-keeps Last d (dataTruncateM plan g i 0) (put-last i (freeBlock (w .state .counter)) (w .dev)) (cut-last i 0 d)
-
-  sync-row-last : (i : ℕ) (w : World) → Last (syncRowM plan g i w .dev)
-  unfolding syncRowM
-  sync-row-last i w = put-last i (rowBlock (at (w .state .rows) i)) (w .dev)
 
 -- ---- an inner call that comes to a refusal changes nothing
 
@@ -110,10 +58,10 @@ module _ {R : Type 0} (zeros : R) (w : World) where
   refuses : (n : ℕ) → Quits zeros w (outcome n zeros w)
   refuses n r = refl
 
-  settles : (o : Outcome R World) → Settles (o .out) → Quits zeros w o
+  settles : (o : Outcome R World) → NotRefused (o .out) → Quits zeros w o
   settles o s r = absurd (no-refusal (o .out) s r)
 
-  on-handle : (slot generation : ℕ) (o : Outcome R World) → Settles (o .out) → Quits zeros w (onHandle slot generation zeros w o)
+  on-handle : (slot generation : ℕ) (o : Outcome R World) → NotRefused (o .out) → Quits zeros w (onHandle slot generation zeros w o)
   on-handle slot generation o s = either (Quits zeros w) (isLive slot generation (w .state .rows)) (settles o s) (refuses 6)
 
 module _ (plan : List ℕ) (g : Geometry) (w : World) where
@@ -121,7 +69,7 @@ module _ (plan : List ℕ) (g : Geometry) (w : World) where
   unfolding readAtM readPart
   read-quits slot generation pos buf =
       on-handle (filling 0 buf) w slot generation _
-      (either (λ (o : Outcome Filling World). Settles (o .out)) (leb (lenOf (at (w .state .rows) slot)) pos) (inl refl)
+      (either LastO (leb (lenOf (at (w .state .rows) slot)) pos) (inl refl)
       (read-last plan g slot pos _ (w .dev)))
 
   write-quits : (slot generation pos : ℕ) (src : List ℕ) → Quits tt w (writeAtM plan g slot generation pos src w)
@@ -136,7 +84,7 @@ module _ (plan : List ℕ) (g : Geometry) (w : World) where
   unfolding syncM
   sync-quits slot generation =
       on-handle tt w slot generation _
-      (either (λ (x : World). Last (x .dev)) (isDirty (at (w .state .rows) slot)) {x = syncRowM plan g slot w}
+      (either LastW (isDirty (at (w .state .rows) slot)) {x = syncRowM plan g slot w}
       {y = world (flushM plan (w .dev)) (w .state)} (sync-row-last plan g slot w) (flush-last plan g (w .dev)))
 
   open-quits : (path : List ℕ) (keep : Bool) → Quits noHandle w (openWriteM plan g path keep w)
@@ -160,43 +108,15 @@ module _ (plan : List ℕ) (g : Geometry) (w : World) where
       (either Q (ltb lastCounter (w .state .counter + 1)) {x = outcome 9 tt w} {y = byDevice (releaseM plan g i w)} (refuses tt w 9)
       (settles tt w _ (release-last plan g i w))) (refuses tt w 5)
 
-  vacated-last : (j : ℕ) (v : World) → Last (v .dev) → Last (vacatedM plan g j v .dev)
-  unfolding vacatedM
-  vacated-last j v h = either (λ (x : World). Last (x .dev)) (ltb j (length (v .state .rows))) (release-last plan g j v) h
-
-  rebind-last : (i : ℕ) (to : List ℕ) → Last (rebindM plan g i to w .dev)
-  unfolding rebindM
-  rebind-last i to = put-last plan g i _ (w .dev)
-
-  renamed-last : (i j : ℕ) (to : List ℕ) → Settles (renamedM plan g i j to w .out)
-  unfolding renamedM settledM
-  renamed-last i j to =
-      let v = rebindM plan g i to w in
-      let h = rebind-last i to in
-      either (λ (o : Outcome None World). Settles (o .out)) (eqb (v .dev .place .last) 0) (vacated-last j v h) h
-
   rename-quits : (from to : List ℕ) → Quits tt w (renameM plan g from to w)
   unfolding renameM
   rename-quits from to =
       let f = frontM from to (w .state) in
-      either (Quits tt w) (f .go) (settles tt w _ (renamed-last (f .from) (f .to) to)) (refuses tt w (f .out))
+      either (Quits tt w) (f .go) (settles tt w _ (renamed-last plan g (f .from) (f .to) to w)) (refuses tt w (f .out))
 
 module _ (plan : List ℕ) (g : Geometry) (path : List ℕ) where
-  one-last : (i : ℕ) (w : World) → Settles (syncOneM plan g path i w .out)
-  unfolding syncOneM
-  one-last i w =
-      either (λ (o : Outcome None World). Settles (o .out)) (isDue path (at (w .state .rows) i)) (sync-row-last plan g i w) (inl refl)
-
-  each-last : (is : List ℕ) (w : World) → Settles (syncEachM plan g path is w .out)
-  unfolding syncEachM
-  each-last [] w = inl refl
-  each-last (i ∷ is) w =
-      either (λ (o : Outcome None World). Settles (o .out)) (eqb (syncOneM plan g path i w .out) 0)
-      (each-last is (syncOneM plan g path i w .left)) (one-last i w)
-
   sync-dir-quits : (w : World) → Quits tt w (syncDirM plan g path w)
-  unfolding syncDirM
-  sync-dir-quits w = settles tt w _ (each-last (range 0 (length (w .state .rows))) w)
+  sync-dir-quits w = settles tt w _ (sync-dir-last plan g path w)
 
 create-quits : (path : List ℕ) (s : State) → IsRefusal (createDirAllM path s .out)
     → createDirAllM path s ≡ outcome (createDirAllM path s .out) tt s

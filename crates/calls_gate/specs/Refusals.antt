@@ -1,7 +1,7 @@
 -- 01's column "Left behind" as one theorem over all calls: what a refusal leaves of everything lent.
 use Prim.Native.Nat.{ℕ, zero, suc}
 use mathlib.Core.Path.{_≡_}
-use mathlib.Core.Logic.{_≢_, _⊎_}
+use mathlib.Core.Logic.{_≢_}
 use mathlib.Core.Bool.{Bool, true, false, cond, _||_}
 use mathlib.Core.List.{List}
 use lib.Dec.{eqb}
@@ -10,6 +10,7 @@ use Rattle.device.specs.declared.Geometry.{Geometry}
 use Rattle.device.specs.Device.{onward}
 use Rattle.pool_state.specs.State.{Bufs}
 use Rattle.pool_steps.specs.World.{Lent}
+pub use Rattle.pool_steps.specs.Outcome.{NotRefused}
 use Rattle.calls_gate.specs.declared.Call.{Call}
 use Rattle.calls_gate.specs.declared.Call.the-variants.{Mount, Adopt, OpenWrite, OpenRead, ReadAt, WriteAt, SetLen, FileLen}
 use Rattle.calls_gate.specs.declared.Call.the-variants.{Sync, SyncDir, Rename, RemoveFile, CreateDirAll, ReadDir, Exists, Metadata}
@@ -22,10 +23,6 @@ use Rattle.calls_gate.specs.Calls.{callP}
 -- A refusal is every number but 0 (done), 10 (a device call failed) and 11 (a write stored too little).
 abbrev pub IsRefusal : ℕ → Type 0
 IsRefusal n = (n ≢ 0) × (n ≢ 10) × (n ≢ 11)
-
--- A call that was not refused: it is done, or a device call failed, or a write stored too little.
-abbrev pub NotRefused : ℕ → Type 0
-NotRefused n = (n ≡ 0) ⊎ ((n ≡ 10) ⊎ (n ≡ 11))
 
 -- The refusals of a mount and an adoption that come after the header reads. Another number that does joins here, and nothing else changes.
 unfoldable pub afterHeaders : ℕ → Bool

@@ -2,6 +2,7 @@
 use Prim.Native.Nat.{ℕ, zero, suc, _+_, _≤_, _<_}
 use native.Mathlib.Omega.{arith}
 use mathlib.Core.Path.{_≡_, refl}
+use mathlib.Core.Logic.{inl}
 use mathlib.Core.Bool.{Bool, true, false, cond}
 use mathlib.Core.List.{List, [], _∷_}
 use lib.Dec.{eqb, ltb}
@@ -21,7 +22,7 @@ use Rattle.pool_state.specs.Changes.{withRow, withDirs, with-dirs-valid}
 use Rattle.pool_steps.specs.World.{World, Fit}
 use Rattle.pool_steps.specs.Steps.{fineM, putM, rowBlock, syncRowM}
 use Rattle.pool_steps.proofs.Stays.{sync-row-fit}
-use Rattle.pool_steps.proofs.Numbers.{either, put-last}
+use Rattle.pool_steps.proofs.Numbers.{LastO, either, number, sync-row-last}
 use Rattle.pool_steps.specs.Outcome.{Outcome, outcome, None, Out}
 use Rattle.inner_dirs.specs.Folders.{tooLong, createDirAllM, existsM, metadataM, isDue, syncOneM, syncEachM, syncDirM}
 
@@ -88,20 +89,23 @@ module _ (plan : List ℕ) (g : Geometry) where
     unfolding syncDirM
     sync-dir-fit w f = each-fit 0 (length (w .state .rows)) w f (omega arith)
 
-    one-number : (i : ℕ) (w : World) → isNumber (syncOneM plan g path i w .out)
-    unfolding syncOneM syncRowM
-    one-number i w =
-        either Out (isDue path (at (w .state .rows) i)) (put-last plan g i (rowBlock (at (w .state .rows) i)) (w .dev)) (omega arith)
+    one-last : (i : ℕ) (w : World) → LastO (syncOneM plan g path i w)
+    unfolding syncOneM
+    one-last i w = either LastO (isDue path (at (w .state .rows) i)) (sync-row-last plan g i w) (inl refl)
 
-    each-number : (is : List ℕ) (w : World) → isNumber (syncEachM plan g path is w .out)
+    each-last : (is : List ℕ) (w : World) → LastO (syncEachM plan g path is w)
     unfolding syncEachM
-    each-number [] w = omega arith
-    each-number (i ∷ is) w =
-        either Out (eqb (syncOneM plan g path i w .out) 0) (each-number is (syncOneM plan g path i w .left)) (one-number i w)
+    each-last [] w = inl refl
+    each-last (i ∷ is) w =
+        either LastO (eqb (syncOneM plan g path i w .out) 0) (each-last is (syncOneM plan g path i w .left)) (one-last i w)
+
+    -- Its number is always a device call's.
+    pub sync-dir-last : (w : World) → LastO (syncDirM plan g path w)
+    unfolding syncDirM
+    sync-dir-last w = each-last (range 0 (length (w .state .rows))) w
 
     pub sync-dir-number : (w : World) → isNumber (syncDirM plan g path w .out)
-    unfolding syncDirM
-    sync-dir-number w = omega (arith, each-number (range 0 (length (w .state .rows))) w)
+    sync-dir-number w = number (sync-dir-last w)
 
     each-none : (is : List ℕ) (w : World) → ((i : ℕ) → isDue path (at (w .state .rows) i) ≡ false) → syncEachM plan g path is w ≡ outcome 0 tt w
     unfolding syncEachM syncOneM

@@ -1,4 +1,4 @@
--- The number that a rename comes to is one of 01's.
+-- The number that a rename comes to is one of 01's, and that of its device calls once it goes on to them.
 use Prim.Native.Nat.{ℕ}
 use native.Mathlib.Omega.{arith}
 use mathlib.Core.Bool.{cond}
@@ -8,12 +8,11 @@ use lib.ListN.{length}
 use Rattle.limits.specs.Limits.{maxPath}
 use Rattle.path.specs.Path.{samePath}
 use Rattle.device.specs.declared.Geometry.{Geometry}
-use Rattle.slot_rows.specs.Rows.{at, lenOf}
 use Rattle.pool_state.specs.Numbers.{isNumber}
 use Rattle.pool_state.specs.State.{State}
 use Rattle.pool_steps.specs.World.{World}
 use Rattle.pool_steps.specs.Steps.{fineM, releaseM}
-use Rattle.pool_steps.proofs.Numbers.{LastW, either, put-last, release-last}
+use Rattle.pool_steps.proofs.Numbers.{LastO, LastW, either, number, put-last, release-last}
 use Rattle.pool_steps.specs.Outcome.{None, Out, byDevice, outcome}
 use Rattle.inner_open.specs.Files.{isFile, room}
 use Rattle.inner_open.proofs.Numbers.{room-number}
@@ -37,16 +36,20 @@ module _ (plan : List ℕ) (g : Geometry) where
   unfolding rebindM
   rebind-last i to w = put-last plan g i _ (w .dev)
 
-  settled-number : (i j : ℕ) (to : List ℕ) (generation len : ℕ) (w : World) → LastW w → Out (settledM plan g i j to generation len w)
-  unfolding settledM vacatedM
-  settled-number i j to generation len w h = either LastW (ltb j (length (w .state .rows))) {x = releaseM plan g j w} {y = w} (release-last plan g j w) h
+  vacated-last : (j : ℕ) (w : World) → LastW w → LastW (vacatedM plan g j w)
+  unfolding vacatedM
+  vacated-last j w h = either LastW (ltb j (length (w .state .rows))) {x = releaseM plan g j w} {y = w} (release-last plan g j w) h
+
+  pub renamed-last : (i j : ℕ) (to : List ℕ) (w : World) → LastO (renamedM plan g i j to w)
+  unfolding renamedM settledM
+  renamed-last i j to w =
+      let v = rebindM plan g i to w in
+      let h = rebind-last i to w in
+      either LastO (fineM (v .dev)) {y = byDevice v} (vacated-last j v h) h
 
   pub rename-number : (from to : List ℕ) (w : World) → Out (renameM plan g from to w)
-  unfolding renameM renamedM
+  unfolding renameM
   rename-number from to w =
       let f = frontM from to (w .state) in
-      let v = rebindM plan g (f .from) to w in
-      let h = rebind-last (f .from) to w in
       either Out (f .go) {x = renamedM plan g (f .from) (f .to) to w} {y = outcome {R = None} (f .out) tt w}
-      (either Out (fineM (v .dev)) {y = byDevice v} (settled-number (f .from) (f .to) to (w .state .counter) (lenOf (at (w .state .rows) (f .from))) v h) h)
-      (front-number from to (w .state))
+      (number (renamed-last (f .from) (f .to) to w)) (front-number from to (w .state))
