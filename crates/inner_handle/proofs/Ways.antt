@@ -14,11 +14,10 @@ use Rattle.device.specs.Device.{Dev, dev, Shape, Read, read, turn, onward, shar
 use Rattle.device.specs.Device as Device
 use Rattle.slot_rows.specs.Rows.{Row, at, isBound, genOf, lenOf, isDirty, resized, rowsOf, Flat}
 use Rattle.slot_rows.proofs.InBuffers.{length-rows}
-use Rattle.pool_state.specs.State.{Bufs, bufs, view, flat, IsPool}
-use Rattle.pool_state.specs.Changes.{withRow, row-flat}
+use Rattle.pool_state.specs.State.{Bufs, bufs, view, IsPool}
+use Rattle.pool_state.specs.Changes.{row-flat}
 use Rattle.pool_steps.specs.World.{World, Lent, lent, viewW, flatW, Ready}
 use Rattle.pool_steps.specs.Steps.{fineM, syncRowM}
-use Rattle.inner_handle.specs.declared.Len.{Len}
 use Rattle.pool_steps.specs.Outcome.{Outcome, outcome, flatO, None, byDevice}
 use Rattle.inner_handle.specs.Handles.{isLive, onHandle, fileLenM, filling, readPart, resizedM, writeAtM, setLenM, syncM}
 use Rattle.inner_handle.proofs.Stays.{live-means, stays}
@@ -148,17 +147,15 @@ module _ (g : Geometry) (l : Lent) (R : Ready g l) (i n : ℕ) (e d : Dev) (q : 
       let o : lent e b ≡ flatW (resizedM e i n (view b)) = rw k (ap (lent e) (sym (R .pool .canon))) in
       ap (outcome (e .place .last) tt) o ∙ ap (λ (x : Dev). flatO (byDevice (resizedM x i n (view b)))) q
 
-  -- it was, and the handle is live still
-  pub resize-done : e .place .last ≡ 0 → (live : Bool) → live ≡ true → (x : ℕ) → x ≡ cond live 0 6 → (l₁ : List ℕ)
-      → rowsOf l₁ (b .names) (b .pool .held) ≡ cond live (set (rowsIn b) i row) (rowsIn b) → Flat (b .pool .chosen .rows) (b .pool .held) l₁ (b .names)
-      → outcome x tt (lent e (bufs (b .pool) l₁ (b .names) (b .dirs))) ≡ flatO (byDevice (resizedM d i n (view b)))
+  -- it was
+  pub resize-done : e .place .last ≡ 0 → (l₁ : List ℕ)
+      → rowsOf l₁ (b .names) (b .pool .held) ≡ set (rowsIn b) i row → Flat (b .pool .chosen .rows) (b .pool .held) l₁ (b .names)
+      → outcome 0 tt (lent e (bufs (b .pool) l₁ (b .names) (b .dirs))) ≡ flatO (byDevice (resizedM d i n (view b)))
   unfolding resizedM flatO flatW view
-  resize-done z live t x u l₁ r F =
+  resize-done z l₁ s F =
       let k : fineM e ≡ true = eq-eqb _ _ z in
-      let s : rowsOf l₁ (b .names) (b .pool .held) ≡ set (rowsIn b) i row = rw t at r in
-      let v : x ≡ e .place .last = (rw t at u) ∙ sym z in
       let o : lent e (bufs (b .pool) l₁ (b .names) (b .dirs)) ≡ flatW (resizedM e i n (view b)) = rw k (ap (lent e) (row-flat b (R .pool) i row l₁ (b .names) s F)) in
-      ap₂ (λ (y : ℕ) (m : Lent). outcome y tt m) v o ∙ ap (λ (y : Dev). flatO (byDevice (resizedM y i n (view b)))) q
+      ap₂ (λ (y : ℕ) (m : Lent). outcome y tt m) (sym z) o ∙ ap (λ (y : Dev). flatO (byDevice (resizedM y i n (view b)))) q
 
 module _ (plan : List ℕ) (g : Geometry) (slot generation : ℕ) (l : Lent) (live : isLive slot generation (rowsIn (l .bufs)) ≡ true) (x : Outcome None Lent) where
   pub write-at-is : (pos : ℕ) (src : List ℕ) (len n : ℕ) → len ≡ lenOf (at (rowsIn (l .bufs)) slot) → n ≡ max len (pos + length src)

@@ -4,7 +4,7 @@ use Prim.Native.Nat.{ℕ, _+_, _-_, min, max}
 use mathlib.Core.Bool.{Bool, true, false, cond}
 use mathlib.Core.List.{List, _++_}
 use lib.Dec.{eqb, ltb, leb}
-use lib.ListN.{length, set, take, drop}
+use lib.ListN.{length, take, drop}
 use Rattle.device.specs.declared.Geometry.{Geometry}
 use Rattle.device.specs.Device.{Dev, dev, flushM, dataReadM, dataWriteM, dataTruncateM}
 use Rattle.slot_rows.specs.Rows.{Row, at, isBound, genOf, lenOf, isDirty, resized}
@@ -55,10 +55,6 @@ readAtM plan g slot generation pos buf w =
     (cond (leb (lenOf (at (w .state .rows) slot)) pos) (outcome 0 (filling 0 buf) w) (readPart plan g slot pos buf w))
 
 -- ---- "Write", "set_len"
-
--- The rows after the second look: where the handle is live its row has this length, and is dirty.
-abbrev pub settled : ℕ → ℕ → ℕ → List Row → List Row
-settled slot generation len rs = cond (isLive slot generation rs) (set rs slot (resized len true (at rs slot))) rs
 
 -- "In both, 10 or 11 changes no row": the row has its new length, and is dirty, where the device call was done.
 unfoldable pub resizedM : Dev → ℕ → ℕ → State → World

@@ -5,14 +5,13 @@ use device::Geometry;
 use device::Place;
 use pool_state::Pool;
 ghost use mathlib.Core.Path.{_≡_};
-ghost use mathlib.Core.Bool.{true, cond};
 ghost use Prim.Native.Nat.{_-_, _<_, min, max};
 ghost use Rattle.device.specs.Device.{dev};
 ghost use Rattle.slot_rows.specs.Rows.{rowsOf, Flat};
 ghost use Rattle.pool_state.specs.State.{bufs, bufsBefore, view, IsPool};
 ghost use Rattle.pool_steps.specs.World.{lent, viewW, Ready, before, after};
 ghost use Rattle.pool_steps.specs.Outcome.{outcome, flatO};
-ghost use Rattle.inner_handle.specs.Handles.{isLive, fileLenM, filling, settled, readAtM, writeAtM, setLenM, syncM};
+ghost use Rattle.inner_handle.specs.Handles.{isLive, fileLenM, filling, readAtM, writeAtM, setLenM, syncM};
 
 // The number of a call, and a file's length.
 pub struct Len {
@@ -138,38 +137,14 @@ pub fn read_at(
     }
 }
 
-// The second look of write_at and set_len, once the device has done its work: 6 where the handle is no longer live. Else the row has
-// this length, and is dirty. As a call has the pool to itself here, the handle is live still.
-fn resize(
-    nums: &mut [u64],
-    names: &[u8],
-    cap: usize,
-    n: usize,
-    slot: usize,
-    generation: u64,
-    len: u64,
-) -> u8
-    requires { ⌜ Flat cap n (now nums) (now names) ⌝ }
-    ensures out { λ r. ⌜ r ≡ cond (isLive slot generation (rowsOf (now (nums .entry)) (now (names .entry)) n)) 0 6 ⌝ }
-    ensures rows { λ _. ⌜
-        rowsOf (now (nums .exit)) (now (names .entry)) n
-        ≡ settled slot generation len (rowsOf (now (nums .entry)) (now (names .entry)) n) ⌝ }
-    ensures flat { λ _. ⌜ Flat cap n (now (nums .exit)) (now (names .entry)) ⌝ }
-{
-    if live(nums, names, cap, n, slot, generation) {
-        slot_rows::set_row_len(nums, names, cap, n, slot, len, true);
-        return 0;
-    }
-    6
-}
-
 fn greater(a: u64, b: u64) -> u64
     ensures { λ r. ⌜ r ≡ max a b ⌝ }
 {
     if a <= b { b } else { a }
 }
 
-// Writes src from file offset `at` on. The file then reaches at least to the end of it.
+// Writes src from file offset `at` on. The file then reaches at least to the end of it. The Rust looks at the handle again once the bytes
+// are stored; a call here has the pool to itself, so that look would find what the first one found (specs/Again.antt), and so in set_len.
 pub fn write_at(
     bytes: &mut [u8],
     phys: &mut [u64],
@@ -200,20 +175,18 @@ pub fn write_at(
         };
     }
     let len = slot_rows::row_len(nums, names, cap, n, slot);
-    let wrote = device::data_write(bytes, phys, geometry, plan, place, slot, at, src);
-    let last = wrote.last;
+    let put = device::data_write(bytes, phys, geometry, plan, place, slot, at, src);
+    let last = put.last;
     if last != 0 {
         return Ended {
             out: last,
-            place: wrote,
+            place: put,
         };
     }
     let end = at + src.len() as u64;
-    let out = resize(nums, names, cap, n, slot, generation, greater(len, end));
-    Ended {
-        out: out,
-        place: wrote,
-    }
+    let reach = greater(len, end);
+    slot_rows::set_row_len(nums, names, cap, n, slot, reach, true);
+    Ended { out: 0, place: put }
 }
 
 // Cuts the file to len bytes, or adds zeros up to them.
@@ -252,11 +225,8 @@ pub fn set_len(
             place: cut,
         };
     }
-    let out = resize(nums, names, cap, n, slot, generation, len);
-    Ended {
-        out: out,
-        place: cut,
-    }
+    slot_rows::set_row_len(nums, names, cap, n, slot, len, true);
+    Ended { out: 0, place: cut }
 }
 
 // Writes and flushes the header of a dirty file, which makes it clean; of a clean one there is only the flush.

@@ -3,7 +3,7 @@ use mathlib.Core.Path.{sym, _∙_}
 use Rattle.pool_state.specs.InBuffers.{pool-rows}
 use borrow.Author.Tests.{not-true, not-false}
 use Rattle.inner_handle.specs.Handles.{setLenM}
-use Rattle.inner_handle.proofs.Ways.{live-device, stale, goes, resize-stopped, resize-done, set-len-is}
+use Rattle.inner_handle.proofs.Ways.{live-row, live-device, stale, resize-stopped, resize-done, set-len-is}
 use borrow.Author.Needs.{needs}
 use Rattle.inner_handle.proofs.set_len.Statement.{statement}
 use Rattle.inner_handle.proofs.set_len.Tie as tie
@@ -46,12 +46,14 @@ returns-2 c =
     (at-data-truncate .before .before .before .if1 .left)) _ _
     (resize-stopped _ _ (after-start .before .pre) _ _ _ _ (at-data-truncate .data-truncate .ensures .0) (c .if2 .taken))
 
-resize-requires : tie.Need-resize-requires
-resize-requires c κs =
-    let after-start-2 = c .before .before .before .before .before .before .before in
-    let after-start = after-start-2 .before .before .before .before .before .before .before in
-    let at-start = after-start .before .before .before .before in
-    pool-rows _ (at-start .pre .pool)
+set-row-len-requires : tie.Need-set-row-len-requires
+set-row-len-requires c κs =
+    let at-data-truncate = c .before .before .before .before .before .before in
+    let at-live = at-data-truncate .before .before .before .before in
+    let after-start = at-live .before .before .before .before .before .before .before in
+    let held = live-row _ _ _ _ _ (sym (at-live .live .ensures) ∙ not-false (at-live .live .result)
+    (at-data-truncate .before .before .before .if1 .left)) in
+    (pool-rows _ (after-start .before .pre .pool), held .0, held .1)
 
 same-length-5 : tie.Need-same-length-5
 same-length-5 c = search needs
@@ -69,10 +71,10 @@ returns-3 c =
     let at-live = at-data-truncate .before .before .before .before in
     let after-start = at-live .before .before .before .before .before .before .before in
     let e = sym (at-live .live .ensures) ∙ not-false (at-live .live .result) (at-data-truncate .before .before .before .if1 .left) in
-    let s = c .before .before .resize .ensures in
+    let s = c .before .before .set-row-len .ensures in
     set-len-is _ _ _ _ _ e _ _
-    (resize-done _ _ (after-start .before .pre) _ _ _ _ (at-data-truncate .data-truncate .ensures .0) (at-if2 .if2 .left) _ e _
-    (s .0) _ (s .1 .0) (s .1 .1))
+    (resize-done _ _ (after-start .before .pre) _ _ _ _ (at-data-truncate .data-truncate .ensures .0) (at-if2 .if2 .left)
+    _ (s .0) (s .1))
 
 pub set-len-spec : {M : Type 1} → statement M
 set-len-spec =
@@ -86,7 +88,7 @@ set-len-spec =
     same-length-3
     same-length-4
     returns-2
-    resize-requires
+    set-row-len-requires
     same-length-5
     same-length-6
     same-length-7

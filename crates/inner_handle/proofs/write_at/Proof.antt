@@ -6,7 +6,7 @@ use Rattle.pool_state.specs.InBuffers.{pool-rows}
 use borrow.Author.Tests.{not-true, not-false}
 use native.Mathlib.Omega.{arith}
 use Rattle.inner_handle.specs.Handles.{writeAtM}
-use Rattle.inner_handle.proofs.Ways.{live-row, live-device, stale, goes, resize-stopped, resize-done, write-inside, write-at-is}
+use Rattle.inner_handle.proofs.Ways.{live-row, live-device, stale, resize-stopped, resize-done, write-inside, write-at-is}
 use borrow.Author.Needs.{needs}
 use Rattle.inner_handle.proofs.write_at.Statement.{statement}
 use Rattle.inner_handle.proofs.write_at.Tie as tie
@@ -79,12 +79,14 @@ add-end c =
 greater-requires : tie.Need-greater-requires
 greater-requires c κs = search needs
 
-resize-requires : tie.Need-resize-requires
-resize-requires c κs =
-    let after-start-3 = c .before .before .before .before .before .before .before in
-    let after-start-2 = after-start-3 .before .before .before .before .before .before .before in
-    let after-start = after-start-2 .before .before .before .before .before .before .before in
-    pool-rows _ (after-start .before .pre .pool)
+set-row-len-requires : tie.Need-set-row-len-requires
+set-row-len-requires c κs =
+    let at-data-write = c .before .before .before .before .before .before .before in
+    let at-live = at-data-write .before .before .before .before .before .before in
+    let after-start = at-live .before .before .before .before .before .before .before in
+    let held = live-row _ _ _ _ _ (sym (at-live .live .ensures) ∙ not-false (at-live .live .result)
+    (at-data-write .before .before .before .before .before .if1 .left)) in
+    (pool-rows _ (after-start .before .before .pre .pool), held .0, held .1)
 
 same-length-5 : tie.Need-same-length-5
 same-length-5 c = search needs
@@ -103,11 +105,11 @@ returns-3 c =
     let at-live = at-if1 .before in
     let after-start = at-live .before .before .before .before .before .before .before in
     let e = sym (at-live .live .ensures) ∙ not-false (at-live .live .result) (at-if1 .if1 .left) in
-    let s = c .before .before .resize .ensures in
+    let s = c .before .before .set-row-len .ensures in
     write-at-is _ _ _ _ _ e _ _ _ _ _ (at-data-write .before .before .before .row-len .ensures)
-    (c .before .before .before .greater .ensures)
-    (resize-done _ _ (after-start .before .before .pre) _ _ _ _ (at-data-write .data-write .ensures .0) (at-if2 .if2 .left) _ e _
-    (s .0) _ (s .1 .0) (s .1 .1))
+    (c .before .before .before .before .greater .ensures)
+    (resize-done _ _ (after-start .before .before .pre) _ _ _ _ (at-data-write .data-write .ensures .0) (at-if2 .if2 .left)
+    _ (s .0) (s .1))
 
 pub write-at-spec : {M : Type 1} → statement M
 write-at-spec =
@@ -124,7 +126,7 @@ write-at-spec =
     returns-2
     add-end
     greater-requires
-    resize-requires
+    set-row-len-requires
     same-length-5
     same-length-6
     same-length-7
