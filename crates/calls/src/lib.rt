@@ -1,5 +1,7 @@
 // The sixteen public calls as one. Crate calls_gate has the calls and the tests 1, 2 and 3, which are made once, by its table; crate
 // calls_path makes the calls on a path that pass them. Here are the others, and the call as a whole.
+#![tactic(auto)]
+
 ghost use Rattle.std.specs.Prelude.{◌≡◌};
 ghost use Rattle.device.specs.Device.{dev};
 ghost use Rattle.pool_state.specs.State.{bufs};

@@ -1,6 +1,8 @@
 // What every public call has in common, before anything of its own: the answers and their numbers, the calls, what a call tells, and 01's
 // "Order: 1, 2, 3, then these" as one table with its tests. Any input may come. A call that is refused here leaves what it was lent as it
 // was, but that a refused mount leaves the record and the rows zero. Crate calls makes the call that is not refused.
+#![tactic(auto)]
+
 ghost use Rattle.std.specs.Prelude.{◌≡◌};
 ghost use Rattle.pool_state.specs.State.{bufs};
 ghost use Rattle.pool_steps.specs.World.{before};

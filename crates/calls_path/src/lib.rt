@@ -1,5 +1,7 @@
 // The calls that are made on a path, which is the table's column `first`, where nothing of the table refuses them: the file's (open_write,
 // open_read, rename, remove_file) and the directory's (sync_dir, create_dir_all, read_dir, exists, metadata). Crate calls makes the others.
+#![tactic(auto)]
+
 ghost use Rattle.std.specs.Prelude.{◌≡◌, true};
 ghost use Rattle.device.specs.Device.{dev};
 ghost use Rattle.pool_state.specs.State.{bufs};

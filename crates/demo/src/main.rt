@@ -2,6 +2,8 @@
 // is free. They are laid on a device and mounted: the higher generation holds the name, and the slot that lost is free again. Each line is
 // printed from what was decoded, or from what the pool answered. No contract can speak of what is written, so all that is worked
 // out stands in functions with contracts of their own.
+#![tactic(auto)]
+
 ghost use Rattle.std.specs.Prelude.{◌≡◌, ◌≤◌, [], ◌++◌, length, take, drop};
 ghost use Rattle.header.specs.Block.{max_path, free_header, bound_header, encoded};
 ghost use Rattle.demo.specs.Story.{says_of};
@@ -41,7 +43,7 @@ fn lay(bytes: &mut [u8], i: usize, block: [u8; 512]) {
         let from = i * 1024;
         let to = from + 512;
         if to <= bytes.len() {
-            bytes::copy(&block, &mut bytes[from..to]);
+            bytes[from..to].copy_from_slice(&block);
         }
     }
 }
@@ -188,7 +190,7 @@ fn torn(old: [u8; 512], new: [u8; 512]) -> [u8; 512]
     ensures { result ≡ take 20 new ++ drop 20 old }
 {
     let mut block = old;
-    bytes::copy(&new[..20], &mut block);
+    block[..20].copy_from_slice(&new[..20]);
     block
 }
 
@@ -223,7 +225,7 @@ fn block(bytes: &[u8], i: usize) -> [u8; 512] {
         let from = i * 1024;
         let to = from + 512;
         if to <= bytes.len() {
-            bytes::copy(&bytes[from..to], &mut r);
+            r.copy_from_slice(&bytes[from..to]);
         }
     }
     r

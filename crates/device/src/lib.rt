@@ -3,6 +3,8 @@
 // 512 + at. A call fails by plan byte 1, and a flush or a truncate by plan byte 2 too; a write that starts, and a truncate that ends,
 // beyond the slot fails. A call that failed comes to 10, a write that stored less than it was asked to 11; `Place` keeps that number
 // beside the place in the plan.
+#![tactic(auto)]
+
 ghost use Rattle.std.specs.Prelude.{◌≡◌, ◌+◌, ◌-◌, ◌*◌, ◌≤◌, ◌<◌, min, max, length, get_or, set, replicate, leb};
 ghost use Rattle.lists.specs.Runs.{all_of};
 ghost use Rattle.le.specs.Le.{laid};
@@ -280,7 +282,7 @@ fn read_at(
     let size = geometry.size;
     let from = slot * size + pos;
     let upto = from + n;
-    bytes::copy(&bytes[from..upto], dst);
+    dst[..upto - from].copy_from_slice(&bytes[from..upto]);
     Got {
         count: n,
         place: next(plan, place, 0),
@@ -358,7 +360,7 @@ fn lay(dst: &mut [u8], at: usize, src: &[u8])
     requires { at + length src.now ≤ length dst.old }
     ensures { dst.new ≡ laid dst.old at src.now }
 {
-    bytes::copy(src, &mut dst[at..at + src.len()]);
+    dst[at..at + src.len()].copy_from_slice(src);
 }
 
 fn zero(dst: &mut [u8])

@@ -2,6 +2,8 @@
 // makes one call of crate device on it by value, and stores the place that came of it back; its contract is that call's, with the record at
 // entry and at exit. What a call came to stands in the record alone (`last`).
 // `put_header`, the one writer of headers, holds a place by value and lends it on, for callers that do not lend one.
+#![tactic(auto)]
+
 ghost use Rattle.std.specs.Prelude.{◌≡◌, ◌≤◌, ◌<◌, length};
 ghost use Rattle.header.specs.Block.{max_path, encoded};
 ghost use Rattle.device.specs.Device.{Shape, dev_before, dev_after, flushed, header_write_m};

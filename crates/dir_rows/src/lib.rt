@@ -2,6 +2,8 @@
 // rows past the count are zero. `register_ancestors` is the Rust's, of src/env/opfs/mod.rs, with rows for its map, and `register_path`
 // what `create_dir_all` of pool.rs does to it. Nothing is refused here: who adds rows has counted what is missing, and knows that they
 // suffice.
+#![tactic(auto)]
+
 ghost use Rattle.std.specs.Prelude.{◌≡◌, [], ◌∷◌, ◌++◌, ◌+◌, ◌*◌, ◌≤◌, ◌<◌, length};
 ghost use Rattle.limits.specs.Limits.{max_path, dir_width};
 ghost use Rattle.path.specs.Path.{normal, ancestors};

@@ -1,5 +1,7 @@
 // The check of a header: 32-bit FNV-1a (01, Check). It goes on from a given state, so that it runs
 // over several slices, one after the other, without a copy. It refuses nothing.
+#![tactic(auto)]
+
 ghost use Rattle.std.specs.Prelude.{◌≡◌};
 ghost use Rattle.fnv.specs.Fnv.{prime32, stepped, fnv_from};
 

@@ -1,6 +1,8 @@
 // The calls that are exported to the oracle harness: check, header, text, paths and scripts as plain functions on numbers and byte slices.
 // Each may be called with anything. A refusal is 01's number, in the order 3, 4, 5, 13, and leaves `out` as it was; 13 says that `out` is
 // too small. Where an answer has a value, it is number * 2^32 + value.
+#![tactic(auto)]
+
 ghost use Rattle.std.specs.Prelude.{◌≡◌, ◌≤◌, length};
 ghost use Rattle.fnv.specs.Fnv.{fnv_from};
 ghost use Rattle.le.specs.Le.{laid};
@@ -50,7 +52,7 @@ pub extern "C" fn header_encode(
         generation,
     };
     let block = h.encode(path);
-    bytes::copy(&block, out);
+    out[..Header::LEN].copy_from_slice(&block);
     0
 }
 
@@ -67,7 +69,7 @@ pub extern "C" fn header_decode(block: &[u8], out: &mut [u8]) -> u8
         return 1;
     }
     let mut whole = header::zeros();
-    bytes::copy(&block[..Header::LEN], &mut whole);
+    whole.copy_from_slice(&block[..Header::LEN]);
     let Decoded::Found(h) = Header::decode(whole, n) else {
         return 1;
     };

@@ -1,6 +1,8 @@
 // The header block of a slot: 512 bytes by value, as one array. Fields are little-endian, and the
 // path lies in the block from byte 32 on. Ports `encode_header` and `decode_header` of
 // src/env/opfs/sah.rs. A block that isn't a header is answered by `Absent`, never refused.
+#![tactic(auto)]
+
 ghost use Rattle.std.specs.Prelude.{◌≡◌, ◌≤◌, ◌++◌, length, drop, replicate};
 ghost use Rattle.header.specs.Block.{max_path, free_header, bound_header, flags_of, fixed, encoded, decoded};
 
@@ -66,7 +68,7 @@ impl Header {
         let part = fnv::fnv1a32(fnv::START, &block[..28]);
         let check = fnv::fnv1a32(part, path);
         le::put_at(&mut block, 28, 4, check as u64);
-        bytes::copy(path, &mut block[Header::FIXED..]);
+        block[Header::FIXED..Header::FIXED + path.len()].copy_from_slice(path);
         block
     }
 

@@ -1,6 +1,8 @@
 // Directories: `create_dir_all`, `exists`, `metadata` and `sync_dir` of pool.rs. create_dir_all refuses with 4 (normal spelling too long)
 // and 8 (directory rows), metadata with 5 (not found); sync_dir comes to 10 or 11 where a device call failed or stored too little. The
 // caller has seen that the buffers are a pool, for sync_dir on its device, and that the path is text.
+#![tactic(auto)]
+
 ghost use Rattle.std.specs.Prelude.{◌≡◌, ◌<◌};
 ghost use Rattle.device.specs.Device.{dev};
 ghost use Rattle.slot_rows.specs.Rows.{at, rows_of, Flat};

@@ -1,6 +1,8 @@
 // The calls on a handle: `file_len`, `read_at`, `write_at`, `set_len` and `sync` of pool.rs. A handle is a slot and a generation; where it
 // is stale, or the slot is out of range, each refuses with 6 and changes nothing. Else the number is that of the device call: 0, 10 where
 // it failed, 11 where a write stored too little. The caller has seen that the buffers are a pool on its device.
+#![tactic(auto)]
+
 ghost use Rattle.std.specs.Prelude.{◌≡◌, ◌-◌, ◌<◌, min, max};
 ghost use Rattle.device.specs.Device.{dev};
 ghost use Rattle.slot_rows.specs.Rows.{rows_of, Flat};

@@ -1,6 +1,8 @@
 // `read_dir` of pool.rs: what `flat_children` (env/mod.rs) gives of the files and of the directories, written in order into a lent buffer.
 // It refuses with 5 (not a directory) and with 13 (the buffer is too small), and then changes nothing. The caller has seen that the buffers
 // are a pool, and that the path is text. Names stay where they are: only the parts that they stand in are picked and put in order.
+#![tactic(auto)]
+
 ghost use Rattle.std.specs.Prelude.{◌≡◌, [], ◌++◌, ◌+◌, ◌*◌, ◌≤◌, ◌<◌, length, get_or};
 ghost use Rattle.std.proofs.lemmas.List.Edits.{sets};
 ghost use Rattle.limits.specs.Limits.{dir_width};

@@ -1,6 +1,8 @@
 // The calls by path: `open_read`, `open_write` and `remove_file` of pool.rs. They refuse with 4 (path too long), 5 (not found), 7 (no free
 // slot), 8 (directory rows), 9 (generations), and with 10 or 11 where a device call failed or stored too little. The caller has seen
 // that the buffers are a pool on its device, and that the path is text.
+#![tactic(auto)]
+
 ghost use Rattle.std.specs.Prelude.{◌≡◌, true, ◌^◌, ◌≤◌, ◌<◌, length};
 ghost use Rattle.limits.specs.Limits.{max_path, last_counter};
 ghost use Rattle.device.specs.Device.{dev};

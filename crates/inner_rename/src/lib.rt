@@ -2,6 +2,8 @@
 // generations), the file's new header, and the release of the slot that held `to`. The new header is flushed before that slot is let
 // go, so a cut between the two leaves two claims of which the higher generation wins. The caller has seen that the buffers are a
 // pool on its device, and that both paths are text.
+#![tactic(auto)]
+
 ghost use Rattle.std.specs.Prelude.{◌≡◌, true, cond, ◌^◌, ◌≤◌, ◌<◌, ltb, length};
 ghost use Rattle.limits.specs.Limits.{max_path, last_counter};
 ghost use Rattle.lists.specs.Distinct.{In};

@@ -1,6 +1,8 @@
 // Little-endian numbers in a slice of bytes: one writer and one reader, for a field of any width at
 // any offset. The Rust has `to_le_bytes` and `from_le_bytes` in their place. A field must lie inside
 // the slice, and a number that is read has at most 8 bytes.
+#![tactic(auto)]
+
 ghost use Rattle.std.specs.Prelude.{◌≡◌, ◌+◌, ◌≤◌, length};
 ghost use Rattle.le.specs.Le.{le, unle, field, laid};
 

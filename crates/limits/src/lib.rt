@@ -2,6 +2,8 @@
 // last value of the counter. specs/Limits.antt has the same under the names that contracts cite.
 
 // "a path above 480 bytes" is refused; the header has so much room for its path.
+#![tactic(auto)]
+
 pub const MAX_PATH: usize = 480;
 
 // A slot row in the lent numbers: mark, path length, file length, generation.

@@ -2,6 +2,8 @@
 // calls are made on what is lent, by the one function of the public calls, and its answer is put into a lent buffer; a buffer that is too
 // short gets the front of it, and the whole length is given back. Nothing is refused: a line of no form is answered too. The Rust has no
 // such program.
+#![tactic(auto)]
+
 ghost use Rattle.std.specs.Prelude.{◌≡◌, []};
 ghost use Rattle.pool_steps.specs.World.{before, after};
 ghost use Rattle.output.specs.Writer.{shown};

@@ -1,5 +1,7 @@
 // What the command program answers to a line, as text in a lent buffer: 01, "The command program". The buffer may be too short; the whole
 // length is given back, and what falls past the buffer's end goes nowhere. Nothing is refused. The Rust has no such program.
+#![tactic(auto)]
+
 ghost use Rattle.std.specs.Prelude.{◌+◌, ◌^◌, ◌<◌};
 ghost use Rattle.output.specs.Writer.{Puts, PutsAll};
 ghost use Rattle.line_answers.specs.Answers.{spaced, what_text, no_text, end_text, open_text};

@@ -1,6 +1,8 @@
 // A pool as text in a lent buffer: what the command program prints for `dump` (01, "The command program"). The buffer may be too short; the
 // whole length is given back, and what falls past the buffer's end goes nowhere. A record that is no pool gets `no 1`. The Rust has no such
 // program.
+#![tactic(auto)]
+
 ghost use Rattle.std.specs.Prelude.{◌≡◌, ◌+◌, ◌*◌, ◌^◌, ◌≤◌, ◌<◌, length};
 ghost use Rattle.limits.specs.Limits.{dir_width};
 ghost use Rattle.lists.specs.Blocks.{cat};

@@ -1,5 +1,7 @@
 // What a line of the command program asks for: the words between its spaces, and 01's table of forms. Any bytes will do; a line that is too
 // long, or of no form, is a command too. The Rust has no such program.
+#![tactic(auto)]
+
 ghost use Rattle.std.specs.Prelude.{◌≡◌, ◌+◌, ◌-◌, ◌≤◌, ◌<◌, length, take, drop};
 ghost use Rattle.line_words.specs.Words.{run_len};
 ghost use Rattle.line_words.specs.Commands.{Means, one_word, two_words, three_words, request_of};

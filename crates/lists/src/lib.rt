@@ -1,5 +1,7 @@
 // What every layer shares and no document owns: the answer of a search, the three-way order, and the order of two runs of bytes.
 // The definitions and laws of lists that go with them stand in specs/, each once, over the element, the index or the width.
+#![tactic(auto)]
+
 ghost use Rattle.std.specs.Prelude.{◌≡◌};
 ghost use Rattle.lists.specs.Order.{byte_order};
 

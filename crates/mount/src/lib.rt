@@ -1,6 +1,8 @@
 // Mount and adopt of pool.rs (`new`, `adopt_slots` over `install`): the headers of new slots are read, the claims take their rows, and the
 // losers are released. Refused are 12 (more slots than rows or device), 10 from a header read, 8 and 9; nothing of the pool has changed
 // then. That the buffers are a pool on its device, and the shapes, the caller has seen.
+#![tactic(auto)]
+
 ghost use Rattle.std.specs.Prelude.{◌≡◌, ◌*◌, ◌≤◌, max, length, take};
 ghost use Rattle.limits.specs.Limits.{max_path, row_width, dir_width};
 ghost use Rattle.device.specs.Device.{dev, Shape};

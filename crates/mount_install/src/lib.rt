@@ -2,6 +2,8 @@
 // bound where the header claims a path, and the losers are known; here the claims' ancestors are registered, the spare slots are queued,
 // the losers are unbound, and the record counts the new slots. Two refusals are found here, 8 (more directories to hold than directory
 // rows) and 9 (no generation left for each loser): then rows and directories are put back.
+#![tactic(auto)]
+
 ghost use Rattle.std.specs.Prelude.{◌≡◌, cond, ℕ, ◌≤◌, ◌<◌, length, take, drop};
 ghost use Rattle.lists.specs.Distinct.{In};
 ghost use Rattle.slot_rows.specs.Rows.{at, path_of, rows_of, Flat};

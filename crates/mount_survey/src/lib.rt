@@ -1,6 +1,8 @@
 // The look at the headers before a mount or an adoption does anything: the first half of `install` in pool.rs. `stage` reads the headers
 // of new slots and writes each claim into its slot's row; `find_losers` says which claims lose, equal paths being held once. What it all
 // comes to is `scan` of specs/Survey.antt. A read that fails ends the staging and leaves the rows as they were; nothing else is refused.
+#![tactic(auto)]
+
 ghost use Rattle.std.specs.Prelude.{◌≡◌, true, false, cond, ◌&&◌, [], ◌∷◌, ◌++◌, map, ◌+◌, ◌-◌, ◌*◌, ◌≤◌, ◌<◌, max, length, get_or, take, replicate, eqb, ltb};
 ghost use Rattle.lists.specs.Blocks.{pad};
 ghost use Rattle.device.specs.Device.{turn, given, Shape};

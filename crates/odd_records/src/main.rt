@@ -2,6 +2,8 @@
 // each wrong shape. A line has what was tried, the number that came back for it, and the number for an input beside it that is as it should
 // be; the file stdout has the specification's. Other inputs that nobody should give (plans, places, handles and paths of any kind) can be
 // put into scripts, and are replayed; a script's record and shape are always its own.
+#![tactic(auto)]
+
 ghost use Rattle.std.specs.Prelude.{◌≡◌, min, length};
 
 use calls_gate::{Call, Reply};

@@ -1,5 +1,7 @@
 // Output that is poured into a lent buffer, which may be too short for it. `at` says how much came before: what falls past the buffer's
 // end is counted and goes nowhere. Each writer gives back the count after it, and refuses nothing; the caller has seen that the count fits.
+#![tactic(auto)]
+
 ghost use Rattle.std.specs.Prelude.{◌≡◌, [], ◌∷◌, ◌+◌, ◌^◌, ◌<◌, length};
 ghost use Rattle.le.specs.Le.{le};
 ghost use Rattle.output.specs.Writer.{Puts, run_of};

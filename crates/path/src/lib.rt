@@ -1,6 +1,8 @@
 // Paths as Rust's std::path has them on a platform with `/`: equality, the parent, the ancestors, normal spelling and the order of
 // listings. A path is its bytes: any bytes will do, and nothing is refused. All works on the given spelling, and nothing is copied but
 // what is to be written.
+#![tactic(auto)]
+
 ghost use Rattle.std.specs.Prelude.{◌≡◌, ◌+◌, ◌≤◌, length, drop};
 ghost use Rattle.le.specs.Le.{laid};
 ghost use Rattle.lists.specs.Same.{same_bytes};

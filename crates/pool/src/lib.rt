@@ -2,6 +2,8 @@
 // slot". One entry loads the records into flat numbers, has crate calls make the call on those, and stores them back. So its contract is
 // the flat call's, with the place and the numbers of the records at entry and at exit. Any input may come. More than 64 records are no
 // pool's: they are refused before they are loaded.
+#![tactic(auto)]
+
 ghost use Rattle.std.specs.Prelude.{◌≡◌, ◌*◌, ◌≤◌, cond, length, take};
 ghost use Rattle.limits.specs.Limits.{row_width};
 ghost use Rattle.device.specs.Device.{dev};

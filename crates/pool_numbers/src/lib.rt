@@ -1,5 +1,7 @@
 // Callers that hold flat numbers, and the place by value, come over this to the pool's face: the numbers are made records, the call is made
 // over those, and their numbers are put back. The contract is the flat call's. Any input may come.
+#![tactic(auto)]
+
 ghost use Rattle.std.specs.Prelude.{◌≡◌, true};
 ghost use Rattle.pool_steps.specs.World.{before, after};
 ghost use Rattle.slot_records.specs.Whole.{whole_rows};

@@ -1,6 +1,8 @@
 // The record of a pool with its free queue and its counter, in place of pool.rs's `free`, `free_count` and `next_generation`. The record
 // goes by value, in and out. `push_free`, `pop_free` and `next_generation` are the Rust's; none refuses: the caller has seen that there is
 // room, a free slot, or a generation left.
+#![tactic(auto)]
+
 ghost use Rattle.std.specs.Prelude.{◌≡◌, ◌^◌, ◌<◌};
 ghost use Rattle.limits.specs.Limits.{last_counter};
 ghost use Rattle.pool_state.specs.State.{choosing};

@@ -2,6 +2,8 @@
 // and the sync of one row; both write their header by `device_lent::put_header`. Each stops at the first device call that fails or is cut
 // short, and the place returned says which number it came to: 0, 10 or 11. Nothing is refused: the caller has seen that the buffers are a
 // pool on its device, that the slot is held, and that a generation is left.
+#![tactic(auto)]
+
 ghost use Rattle.std.specs.Prelude.{◌≡◌, true, ◌^◌, ◌≤◌, ◌<◌, length};
 ghost use Rattle.limits.specs.Limits.{last_counter};
 ghost use Rattle.lists.specs.Distinct.{In};

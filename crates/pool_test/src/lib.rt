@@ -1,6 +1,8 @@
 // Whether a record and its rows are a pool: what refusal 1 of every public call asks (01, "Numbers that come back"). The Rust has no such
 // test: its tables are its own. Nothing is refused here and nothing is taken for granted: any record and any buffers may come.
 // Every lent byte is read, so no loop over bytes has an early exit, and paths are compared only where their keys agree.
+#![tactic(auto)]
+
 ghost use Rattle.std.specs.Prelude.{◌≡◌, ◌&&◌, ◌||◌, ◌+◌, ◌*◌, ◌≤◌, ◌<◌, max, eqb, length, get_or};
 ghost use Rattle.limits.specs.Limits.{max_path, row_width, dir_width};
 ghost use Rattle.lists.specs.Runs.{all_of};

@@ -1,6 +1,8 @@
 // Replays recorded scripts, with no Rust at hand: standard input is a run of entries, each a script and the output that was recorded for it
 // (u32 length and bytes, twice, little-endian). Runs each script by `script::pool_script`, says which outputs differ, and at the end how
 // many scripts there were. What it prints can't be said in a contract, and is compared with the file stdout.
+#![tactic(auto)]
+
 use libc::{STDIN_FILENO, STDOUT_FILENO};
 
 // How many entries were replayed, how many of them differ, and whether there may be more.

@@ -1,6 +1,8 @@
 // The order in which 01 lists and dumps paths: byte order of normal spelling. What is put in order are parts of a buffer that spell paths,
 // rows of slots or of directories alike; the paths stay where they are. The Rust has no such order: its listings are sets. Nothing is
 // refused.
+#![tactic(auto)]
+
 ghost use Rattle.std.specs.Prelude.{◌≡◌, ◌∷◌, ◌++◌, ◌+◌, ◌*◌, ◌^◌, ◌≤◌, ◌<◌, length, get_or, take, drop};
 ghost use Rattle.std.proofs.lemmas.List.Edits.{sets};
 ghost use Rattle.limits.specs.Limits.{dir_width};

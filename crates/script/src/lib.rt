@@ -1,6 +1,8 @@
 // `pool_script` (docs/EXPORTS.md): reads a script, runs it over a small pool of its own through the public calls, and puts out their
 // answers and the last tables. The pool's rows and its device are arrays in here. A script whose setup isn't whole or passes the limits
 // puts out nothing.
+#![tactic(auto)]
+
 ghost use Rattle.std.specs.Prelude.{◌≡◌, ◌*◌, ◌^◌, ◌≤◌, ◌<◌, length, replicate};
 ghost use Rattle.pool_steps.specs.World.{before, after};
 ghost use Rattle.script_format.specs.Format.{operations};

@@ -1,5 +1,7 @@
 // A script, read (docs/EXPORTS.md): a setup, and then operations to the end. What is cut off, has no code of the table, or passes the
 // script's limits is said so, and nothing of it is used. A place is an index of the script.
+#![tactic(auto)]
+
 ghost use Rattle.std.specs.Prelude.{◌≡◌, ◌+◌, ◌*◌, ◌≤◌, ◌<◌, length};
 ghost use Rattle.lists.specs.Runs.{tab};
 ghost use Rattle.script_format.specs.Format.{no_span, span_at, span_if, last_code, form_of, no_op, args_of, op_at};

@@ -1,6 +1,8 @@
 // One operation of a script (docs/EXPORTS.md): the call that its code stands for, made through the pool's face of records, or on a slot of
 // the device alone, and its answer, which goes to the output. A refused call answers its number and as many bytes as any other. The caller
 // has seen that the operation is whole and its runs lie inside of the script.
+#![tactic(auto)]
+
 ghost use Rattle.std.specs.Prelude.{◌≡◌, ◌+◌, ◌^◌, ◌≤◌, ◌<◌, length, replicate};
 ghost use Rattle.device.specs.Device.{dev_before, dev_after};
 ghost use Rattle.slot_calls.specs.SlotCalls.{slot_done, slot_read};

@@ -1,5 +1,7 @@
 // The tables that a script ends with (docs/EXPORTS.md): the record with its rows, queue and directories, and the device. They go to the
 // output behind what came before. Any record and any buffers may come: what is no pool is said so, and shows none. Nothing is refused.
+#![tactic(auto)]
+
 ghost use Rattle.std.specs.Prelude.{◌≡◌, ◌+◌, ◌*◌, ◌^◌, ◌≤◌, ◌<◌, length, drop, replicate};
 ghost use Rattle.limits.specs.Limits.{row_width, dir_width};
 ghost use Rattle.lists.specs.Blocks.{cat};

@@ -2,6 +2,8 @@
 // and writes `served::answer`'s answer to each before it reads on (docs/EXPORTS.md, "Requests"). It ends with the input, and where a
 // request is cut off, has more than 1 MiB, or its answer can't be written. What is read and written no contract can say; what a request
 // is answered is `served`'s to say.
+#![tactic(auto)]
+
 ghost use Rattle.std.specs.Prelude.{◌≡◌, length};
 
 use libc::{STDIN_FILENO, STDOUT_FILENO};

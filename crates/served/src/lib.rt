@@ -3,6 +3,8 @@
 // lent, all 0xAA before it. A request with no call, of no call here, too short for its numbers, or that asks for too large a buffer gets
 // the empty answer. The calls are harness's own; a new export is one row more in `width_of`, `lends` and `make`, and in
 // specs/Requests.antt.
+#![tactic(auto)]
+
 ghost use Rattle.std.specs.Prelude.{◌≡◌, ◌+◌, ◌≤◌, length, replicate};
 ghost use Rattle.lists.specs.declared.Found.TheVariants.{At};
 ghost use Rattle.le.specs.Le.{field};

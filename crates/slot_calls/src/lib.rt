@@ -2,6 +2,8 @@
 // work on a device alone: there is no pool, and no record is looked at. Any input may come, and what is refused (2, 3, 4, 6) changes
 // nothing. The place in the plan is lent, and moves on by each device call; the work itself is done over a place by value, which
 // is what callers use that lend none.
+#![tactic(auto)]
+
 ghost use Rattle.std.specs.Prelude.{◌≡◌};
 ghost use Rattle.device.specs.Device.{dev_before, dev_after};
 ghost use Rattle.slot_calls.specs.SlotCalls.{slot_refusal, slot_done, slot_read};

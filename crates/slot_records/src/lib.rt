@@ -2,6 +2,8 @@
 // row is read without copying 480 of them. `get` and `set` touch one row, and no other function touches one: through them the flat numbers
 // that crate slot_rows works on are loaded from the records, and stored back. Nothing is refused: an index is within the run, and a buffer
 // has room for four numbers a row.
+#![tactic(auto)]
+
 ghost use Rattle.std.specs.Prelude.{◌≡◌, true, ◌+◌, ◌*◌, ◌/◌, ◌≤◌, ◌<◌, length, set, take, replicate};
 ghost use Rattle.limits.specs.Limits.{row_width};
 ghost use Rattle.slot_records.specs.Records.{none, slot_at, nums_of, slot_in, loaded, stored, flat_of, cleared};

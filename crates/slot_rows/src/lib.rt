@@ -1,6 +1,8 @@
 // The slot rows of a pool in lent buffers, in place of pool.rs's `Slot` and its map from paths: 4 numbers a row (mark, path length,
 // file length, generation) and 480 bytes of path a row, zero filled. Rows are read, made and changed only here, and the row of a path
 // is found here. Nothing is refused: a call on a row needs buffers that are the flat form of their first n rows.
+#![tactic(auto)]
+
 ghost use Rattle.std.specs.Prelude.{◌≡◌, [], ◌∷◌, true, false, ◌+◌, ◌*◌, ◌≤◌, ◌<◌, length, get_or, set, replicate};
 ghost use Rattle.std.proofs.lemmas.List.Edits.{sets};
 ghost use Rattle.limits.specs.Limits.{max_path, row_width};

@@ -2,6 +2,8 @@
 // plan, reads standard input in blocks, cuts it into lines, has `lines` answer each, and writes the answers to standard output when a block
 // is done. A line of any length takes the room of 1,025 bytes, which is enough to see that it is too long. No contract can speak of what is
 // read or written; what a line comes to is `lines`'s to say.
+#![tactic(auto)]
+
 ghost use Rattle.std.specs.Prelude.{◌≡◌, ◌+◌, ◌-◌, ◌≤◌, ◌<◌, min, length, take};
 ghost use Rattle.pool_steps.specs.World.{before};
 ghost use Rattle.slots.specs.Slots.{InBuffers, extended};
@@ -202,7 +204,7 @@ fn append(line: &mut [u8], held: usize, part: &[u8]) -> usize
     ensures within { result ≤ length line.new }
 {
     let n = least(line.len() - held, part.len());
-    bytes::copy(&part[..n], &mut line[held..]);
+    line[held..held + n].copy_from_slice(&part[..n]);
     held + n
 }
 

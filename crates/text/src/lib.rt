@@ -2,6 +2,8 @@
 // a path. Overlong forms, surrogates, characters above U+10FFFF and cut characters are no text; the
 // empty run and NUL are. Beside it the greatest byte of a run, which tells in one loop without an
 // early exit whether all of it is ASCII (below 128) or zero (0).
+#![tactic(auto)]
+
 ghost use Rattle.std.specs.Prelude.{◌≡◌, max};
 ghost use Rattle.text.specs.Text.{owed, lead_of, lead_of3, lead_of4, step_of, walk_of, between, is_text};
 ghost use Rattle.text.specs.Greatest.{greatest};

@@ -2,6 +2,8 @@
 // each, and prints of each whether it came out as it should: `ok`, or both values where they differ.
 // The vectors are those of the FNV authors' test suite. The headers' bytes were worked out by
 // another program.
+#![tactic(auto)]
+
 ghost use Rattle.std.specs.Prelude.{◌≤◌};
 
 use header::{Decoded, Header};
@@ -65,9 +67,8 @@ fn parts() {
 fn encoding() {
     let block = header_of(b"a/b");
     let mut want = header::zeros();
-    bytes::copy(
+    want.copy_from_slice(
         b"REGO\x01\0\0\0\x03\0\0\0\x02\x01\0\0\0\0\0\0\x02\x03\0\0\0\0\0\0\xc4\x19\xab\x6ca/b",
-        &mut want,
     );
     run(b"header of a/b", &block, &want);
     answer(b"decoded", block, 1);
