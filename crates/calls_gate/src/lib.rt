@@ -17,7 +17,7 @@ use pool_state::Pool;
 // ---- answers
 
 // What a call came to; `number` gives the number of the specification.
-#[derive(Drop)]
+#[derive(Clone, Copy)]
 pub enum Answer {
     Done,
     NotPool,
@@ -82,7 +82,7 @@ pub fn answer_of(out: u8) -> Answer
 // ---- calls
 
 // How a file is opened for writing: with what it holds kept, or truncated.
-#[derive(Drop)]
+#[derive(Clone, Copy)]
 pub struct Opening {
     pub keep: bool,
 }
@@ -96,7 +96,7 @@ pub fn keeping(keep: bool) -> Opening
 
 // A call with its numbers. Beside it come two runs of bytes and a buffer: `first` is the path, or the bytes that are written; `second` is
 // the path that a file is renamed to; `buf` is what a read or a listing fills.
-#[derive(Drop)]
+#[derive(Clone, Copy)]
 pub enum Call {
     Mount {
         slots: usize,
@@ -141,7 +141,7 @@ pub enum Call {
 }
 
 // What a call tells: a handle and a length, how many bytes it gave, yes or no. What it does not tell is zero.
-#[derive(Drop)]
+#[derive(Clone, Copy)]
 pub struct Told {
     pub slot: usize,
     pub generation: u64,
@@ -151,7 +151,7 @@ pub struct Told {
 }
 
 // What a call comes to: its answer, what it tells, and the place and the record after it.
-#[derive(Drop)]
+#[derive(Clone, Copy)]
 pub struct Reply {
     pub answer: Answer,
     pub told: Told,
@@ -162,7 +162,7 @@ pub struct Reply {
 // ---- the table
 
 // What is tested of a call: whether it mounts, which of its runs are paths, and whether it writes.
-#[derive(Drop)]
+#[derive(Clone, Copy)]
 pub struct Takes {
     pub mounts: bool,
     pub first: bool,

@@ -16,7 +16,7 @@ use device::{Geometry, Place};
 use pool_state::Pool;
 
 // What an inner call came to, by its number.
-#[derive(Drop)]
+#[derive(Clone, Copy)]
 pub struct Went {
     pub out: u8,
     pub told: Told,

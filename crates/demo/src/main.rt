@@ -15,7 +15,7 @@ use libc::STDOUT_FILENO;
 use pool_state::Pool;
 
 // What a slot's header block says.
-#[derive(Drop)]
+#[derive(Clone, Copy)]
 enum Says {
     Nothing,
     Free(u64),

@@ -18,20 +18,20 @@ const HEADER: usize = 512;
 const LARGEST: usize = 1048576;
 
 // Where the plan is, and what the last device call came to: 0, 10 or 11.
-#[derive(Drop)]
+#[derive(Clone, Copy)]
 pub struct Place {
     pub at: usize,
     pub last: u8,
 }
 
 // What kind of device it is: the size of each slot.
-#[derive(Drop)]
+#[derive(Clone, Copy)]
 pub struct Geometry {
     pub size: usize,
 }
 
 // How many bytes a read gave, and the place after it.
-#[derive(Drop)]
+#[derive(Clone, Copy)]
 pub struct Got {
     pub count: usize,
     pub place: Place,

@@ -7,7 +7,7 @@ ghost use Rattle.std.specs.Prelude.{◌≡◌, ◌≤◌, ◌++◌, length, drop
 ghost use Rattle.header.specs.Block.{max_path, free_header, bound_header, flags_of, fixed, encoded, decoded};
 
 // What a header says of its slot. The path itself stays in the block.
-#[derive(Drop)]
+#[derive(Clone, Copy)]
 pub struct Header {
     pub in_use: bool,
     pub path_len: usize,
@@ -16,7 +16,7 @@ pub struct Header {
 }
 
 // What a block says.
-#[derive(Drop)]
+#[derive(Clone, Copy)]
 pub enum Decoded {
     Absent,
     Found(Header),

@@ -17,14 +17,14 @@ use limits::MAX_PATH;
 use pool_state::Pool;
 
 // The number of create_dir_all, and the record after it.
-#[derive(Drop)]
+#[derive(Clone, Copy)]
 pub struct Made {
     pub out: u8,
     pub pool: Pool,
 }
 
 // The number of metadata, a file's length, and whether the path is a directory's.
-#[derive(Drop)]
+#[derive(Clone, Copy)]
 pub struct Meta {
     pub out: u8,
     pub len: u64,

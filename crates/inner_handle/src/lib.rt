@@ -15,21 +15,21 @@ use device::{Geometry, Place};
 use pool_state::Pool;
 
 // The number of a call, and a file's length.
-#[derive(Drop)]
+#[derive(Clone, Copy)]
 pub struct Len {
     pub out: u8,
     pub len: u64,
 }
 
 // The number of a call, and the place after it.
-#[derive(Drop)]
+#[derive(Clone, Copy)]
 pub struct Ended {
     pub out: u8,
     pub place: Place,
 }
 
 // The number of a read, how many bytes it gave, and the place after it.
-#[derive(Drop)]
+#[derive(Clone, Copy)]
 pub struct Filled {
     pub out: u8,
     pub count: usize,

@@ -19,7 +19,7 @@ use limits::{DIR_WIDTH, MAX_PATH};
 use pool_state::Pool;
 
 // The number of read_dir, and how many bytes it wrote.
-#[derive(Drop)]
+#[derive(Clone, Copy)]
 pub struct Listed {
     pub out: u8,
     pub size: usize,

@@ -19,7 +19,7 @@ use limits::{LAST_COUNTER, MAX_PATH};
 use pool_state::Pool;
 
 // The number of open_read, and the handle.
-#[derive(Drop)]
+#[derive(Clone, Copy)]
 pub struct Reader {
     pub out: u8,
     pub slot: usize,
@@ -27,7 +27,7 @@ pub struct Reader {
 }
 
 // The number of open_write, the handle and the file's length; the place and the record after it.
-#[derive(Drop)]
+#[derive(Clone, Copy)]
 pub struct Writer {
     pub out: u8,
     pub slot: usize,
@@ -38,7 +38,7 @@ pub struct Writer {
 }
 
 // The number of a call, and the place and the record after it.
-#[derive(Drop)]
+#[derive(Clone, Copy)]
 pub struct Done {
     pub out: u8,
     pub place: Place,

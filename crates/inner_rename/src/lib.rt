@@ -25,7 +25,7 @@ use pool_steps::Stepped;
 
 // The number of a rename that ends before the device, or that it goes on, with the slot of `from` and that of `to`, which is the count of
 // slots where no file has that path.
-#[derive(Drop)]
+#[derive(Clone, Copy)]
 pub struct Course {
     pub out: u8,
     pub go: bool,

@@ -17,7 +17,7 @@ use line_words::Command;
 use pool_state::Pool;
 
 // How long the answer is; the place and the record after the line.
-#[derive(Drop)]
+#[derive(Clone, Copy)]
 pub struct AfterLine {
     pub len: usize,
     pub place: Place,

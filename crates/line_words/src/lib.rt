@@ -11,7 +11,7 @@ const MAX_LINE: usize = 1024;
 
 // A command, with the places of its paths in the line: a path starts at a number and goes to the line's end, and the first of two at a
 // number and goes to another, behind which stand a space and the second.
-#[derive(Drop)]
+#[derive(Clone, Copy)]
 pub enum Command {
     Create(usize),
     Sync(usize),

@@ -16,7 +16,7 @@ use pool_state::{Chosen, Pool};
 use pool_steps::Stepped;
 
 // The number that an adoption came to, the place after it, and the pool's record.
-#[derive(Drop)]
+#[derive(Clone, Copy)]
 pub struct Adopted {
     pub out: u8,
     pub place: Place,

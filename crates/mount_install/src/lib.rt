@@ -18,14 +18,14 @@ use limits::{DIR_WIDTH, LAST_COUNTER, MAX_PATH};
 use pool_state::Pool;
 
 // Whether there was room for all directories, and how many there are now.
-#[derive(Drop)]
+#[derive(Clone, Copy)]
 pub struct Registered {
     pub ok: bool,
     pub dirs: usize,
 }
 
 // The refusal that the new slots meet, or 0, and how many directories there are then.
-#[derive(Drop)]
+#[derive(Clone, Copy)]
 pub struct Accepted {
     pub out: u8,
     pub dirs: usize,

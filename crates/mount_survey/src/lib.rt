@@ -16,7 +16,7 @@ use header::{Decoded, Header};
 use limits::{LAST_COUNTER, MAX_PATH, ROW_WIDTH};
 
 // The place after the reads, whether one failed, and what the valid headers ask of the counter.
-#[derive(Drop)]
+#[derive(Clone, Copy)]
 pub struct Staged {
     pub place: Place,
     pub failed: bool,
@@ -24,7 +24,7 @@ pub struct Staged {
 }
 
 // The slots that lose, in the order found.
-#[derive(Drop)]
+#[derive(Clone, Copy)]
 pub struct Losers {
     pub list: [u8; 64],
     pub count: usize,

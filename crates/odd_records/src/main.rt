@@ -14,7 +14,7 @@ use pool_state::Pool;
 // ---- what is lent
 
 // How many cells of each buffer are lent.
-#[derive(Drop)]
+#[derive(Clone, Copy)]
 struct Lengths {
     bytes: usize,
     phys: usize,
@@ -24,7 +24,7 @@ struct Lengths {
 }
 
 // What is lent beside the device's bytes: the slot size, so much of the physical lengths, the rows and the directories, and the record.
-#[derive(Drop)]
+#[derive(Clone, Copy)]
 struct Setting {
     size: usize,
     lengths: Lengths,
@@ -36,7 +36,7 @@ struct Setting {
 }
 
 // What a call answered, and what it left.
-#[derive(Drop)]
+#[derive(Clone, Copy)]
 struct Answered {
     number: u8,
     left: Setting,
@@ -151,7 +151,7 @@ fn main() {
 // ---- records
 
 // What is changed: a cell of the rows or of the queue, a number of the record, how much is lent, or a few of them at once.
-#[derive(Drop)]
+#[derive(Clone, Copy)]
 enum Spot {
     Number(usize),
     Name(usize),
@@ -174,7 +174,7 @@ enum Spot {
 }
 
 // A spot, a number there with which the input is no pool, and one with which it is.
-#[derive(Drop)]
+#[derive(Clone, Copy)]
 struct Odd {
     spot: Spot,
     bad: u64,

@@ -11,7 +11,7 @@ ghost use Rattle.path.specs.Spelling.{idle_slash};
 ghost use Rattle.path.specs.Walk.{run, NextName, Next, Starts, Last, UpOf, Above, name_order, parent_laid};
 
 // A component of a path: its bytes stand from start to stop. Where the two are equal there is none.
-#[derive(Drop)]
+#[derive(Clone, Copy)]
 struct Part {
     start: usize,
     stop: usize,

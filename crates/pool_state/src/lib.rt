@@ -9,7 +9,7 @@ ghost use Rattle.pool_state.specs.State.{choosing};
 ghost use Rattle.pool_state.specs.Queue.{pushed, shifted, popped, ticked};
 
 // What was chosen at mount: how many slot rows and how many directory rows are lent.
-#[derive(Drop)]
+#[derive(Clone, Copy)]
 pub struct Chosen {
     pub rows: usize,
     pub dir_rows: usize,
@@ -27,7 +27,7 @@ pub fn choose(rows: usize, dir_rows: usize) -> Chosen
 
 // What was chosen; the rows held, of slots and of directories; the next generation; the first `free` cells of `queue` are the free slots,
 // oldest first.
-#[derive(Drop)]
+#[derive(Clone, Copy)]
 pub struct Pool {
     pub chosen: Chosen,
     pub held: usize,
@@ -38,7 +38,7 @@ pub struct Pool {
 }
 
 // The slot that was first in the queue, and the record without it.
-#[derive(Drop)]
+#[derive(Clone, Copy)]
 pub struct Popped {
     pub slot: usize,
     pub pool: Pool,

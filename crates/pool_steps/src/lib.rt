@@ -19,7 +19,7 @@ use limits::MAX_PATH;
 use pool_state::Pool;
 
 // The place after a step, and the pool's record.
-#[derive(Drop)]
+#[derive(Clone, Copy)]
 pub struct Stepped {
     pub place: Place,
     pub pool: Pool,

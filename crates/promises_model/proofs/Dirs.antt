@@ -69,7 +69,7 @@ module _ (K : Kit) where
   pub register_old : (d : Dir) (ds es : List Dir) → In d ds → In d (M.register K ds es)
   unfolding M.register
   register_old d ds [] m = m
-  register_old d ds (e ∷ es) m = register_old d _ es (after_old ds e d (M.has K e ds) m)
+  register_old d ds (e ∷ es) m = register_old d (after ds e (M.has K e ds)) es (after_old ds e d (M.has K e ds) m)
 
   pub register_new : (d : Dir) (ds es : List Dir) → In d es → In d (M.register K ds es)
   unfolding M.register

@@ -6,7 +6,7 @@
 use libc::{STDIN_FILENO, STDOUT_FILENO};
 
 // How many entries were replayed, how many of them differ, and whether there may be more.
-#[derive(Drop)]
+#[derive(Clone, Copy)]
 struct Tally {
     scripts: u64,
     differ: u64,
@@ -14,7 +14,7 @@ struct Tally {
 }
 
 // How many bytes of a buffer are a run of the input, and whether there was a whole one that fits.
-#[derive(Drop)]
+#[derive(Clone, Copy)]
 struct Run {
     len: usize,
     whole: bool,

@@ -17,7 +17,7 @@ const LAST_CODE: usize = 26;
 const CODES: usize = LAST_CODE + 1;
 
 // A run of bytes: where they start and end. If it is cut off, `whole` is false and the rest zero.
-#[derive(Drop)]
+#[derive(Clone, Copy)]
 pub struct Span {
     pub from: usize,
     pub to: usize,
@@ -26,7 +26,7 @@ pub struct Span {
 
 // How an operation is written: whether it is one, the widths of its numbers, how many runs come behind them, and the widths of what it
 // answers.
-#[derive(Drop)]
+#[derive(Clone, Copy)]
 pub struct Form {
     pub used: usize,
     pub slot: usize,
@@ -45,7 +45,7 @@ pub struct Form {
 
 // An operation: its code, its arguments, those it does not have zero or empty. Code 0 stands for none. The next operation is at
 // `second.to`.
-#[derive(Drop)]
+#[derive(Clone, Copy)]
 pub struct Op {
     pub code: usize,
     pub slot: usize,
@@ -59,7 +59,7 @@ pub struct Op {
 }
 
 // What stands in a setup: the counts, the plan, and the places of the physical lengths and of the patches.
-#[derive(Drop)]
+#[derive(Clone, Copy)]
 pub struct Setup {
     pub whole: bool,
     pub slots: usize,

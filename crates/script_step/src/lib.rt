@@ -23,7 +23,7 @@ use script_format::Op;
 use slot_calls::SlotCame;
 
 // The place and the record after an operation, and how much was put out.
-#[derive(Drop)]
+#[derive(Clone, Copy)]
 pub struct Ran {
     pub place: Place,
     pub pool: Pool,
@@ -31,7 +31,7 @@ pub struct Ran {
 }
 
 // What a call came to: its number, what it tells, and the place and the record after it.
-#[derive(Drop)]
+#[derive(Clone, Copy)]
 struct CallCame {
     number: u8,
     told: Told,
@@ -40,7 +40,7 @@ struct CallCame {
 }
 
 // What a call on a slot came to: its number, how many bytes it gave, and the place after it.
-#[derive(Drop)]
+#[derive(Clone, Copy)]
 struct OnSlot {
     number: u8,
     count: usize,

@@ -13,21 +13,21 @@ use device::{Geometry, Place};
 use header::Header;
 
 // What a read of a slot came to: its number, and how many bytes it gave.
-#[derive(Drop)]
+#[derive(Clone, Copy)]
 pub struct SlotCount {
     pub number: u8,
     pub count: usize,
 }
 
 // The same, with the place after it.
-#[derive(Drop)]
+#[derive(Clone, Copy)]
 pub struct SlotGot {
     pub told: SlotCount,
     pub place: Place,
 }
 
 // What any other call came to: its number, and the place after it.
-#[derive(Drop)]
+#[derive(Clone, Copy)]
 pub struct SlotCame {
     pub told: u8,
     pub place: Place,

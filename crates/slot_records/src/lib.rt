@@ -12,7 +12,7 @@ ghost use Rattle.slot_records.specs.Whole.{whole_rows, spread_of};
 use limits::ROW_WIDTH;
 
 // A row: mark (0 unbound, 1 clean, 2 dirty), path length, file length, generation.
-#[derive(Drop)]
+#[derive(Clone, Copy)]
 pub struct Slot {
     pub mark: u64,
     pub path_len: u64,

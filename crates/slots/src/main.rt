@@ -19,7 +19,7 @@ const ROOM: usize = 8192;
 
 // What goes on from line to line: the place and the record of the pool, how many bytes of a line are held, how many bytes of answers wait,
 // and where in the block the next line starts.
-#[derive(Drop)]
+#[derive(Clone, Copy)]
 struct Progress {
     place: Place,
     pool: Pool,

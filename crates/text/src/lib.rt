@@ -10,7 +10,7 @@ ghost use Rattle.text.specs.Greatest.{greatest};
 
 // Where a reader of a text stands: `left` bytes are due, the next of them in lo..=hi and those
 // behind it in 0x80..=0xBF.
-#[derive(Drop)]
+#[derive(Clone, Copy)]
 struct Due {
     left: u8,
     lo: u8,

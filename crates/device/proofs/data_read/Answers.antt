@@ -1,0 +1,18 @@
+-- Beyond the slot one place is as another: `read_clamped`.
+use mathlib.Core.Path.{◌∙◌}
+use Rattle.device.specs.Device.{data_read_m}
+use Rattle.device.proofs.Ways.{read_clamped}
+use Rattle.device.proofs.data_read.Goals as goal
+
+pub file_pos-pos-requires : goal.file_pos-pos-requires
+file_pos-pos-requires c =
+    let shape = c.requires.shape in
+    (shape.least, shape.most)
+
+pub returns : goal.returns
+unfolding data_read_m
+returns c =
+    let a = c.args in
+    let s = c.requires in
+    c.read_at.ensures ∙ read_clamped a.plan.now a.geometry a.slot a.at a.dst.now a.bytes.now
+    a.phys.now a.place c.file_pos-pos.ensures (s.0.within a.slot s.1)

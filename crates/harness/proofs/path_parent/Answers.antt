@@ -1,0 +1,35 @@
+-- The ways out are `parent_no_text`, `parent_none` and `parent_text`.
+use mathlib.Core.Path.{◌≡◌, sym, subst, ◌∙◌}
+use mathlib.Core.Bool.{false, not}
+use Rattle.text.specs.Text.{is_text}
+use lib.Seq.{length-take-le}
+use Rattle.lists.specs.declared.Found.{Found}
+use Rattle.path.specs.Walk.{UpOf}
+use Rattle.harness.proofs.Ways.{told, parent_no_text, parent_none, parent_text}
+use Rattle.harness.proofs.path_parent.Goals as goal
+
+is-text : (c : goal.Else-not-is_text) → not (is_text c.args.path.now) ≡ false
+is-text c = told c.is_text.ensures c.if-not-is_text.false
+
+-- what the search for the parent's end came upon
+up : (c : tie.After-parent-end) (x : Found) → c.parent-end.result ≡ x → UpOf c.before.before.before.before.before.args.path.now x
+up c x e = subst (λ (y : Found). UpOf c.before.before.before.before.before.args.path.now y) e c.parent-end.ensures
+
+pub returns-then-not-is_text : goal.returns-then-not-is_text
+returns-then-not-is_text c =
+    let a = c.args in
+    parent_no_text a.path.now a.out.now c.refusal.ensures (told c.is_text.ensures c.if-not-is_text.true)
+
+pub returns-in_default : goal.returns-in_default
+returns-in_default c =
+    let a = c.args in
+    parent_none a.path.now a.out.now (is-text «Else1») c.refusal-in_default.ensures (up «After-parent_end» _ c.enum_told-1.given.1)
+
+pub slice_bounds-spell-end : goal.slice_bounds-spell-end
+slice_bounds-spell-end c =
+    sym (length-take-le _ _ (up «Else1» _ c.e-1.given.1).inside)
+
+pub returns : goal.returns
+returns c =
+    let a = c.args in
+    c.spell.ensures ∙ parent_text a.path.now a.out.now (is-text «After-is_text») _ (up «Else1» _ c.e-1.given.1)

@@ -1,0 +1,28 @@
+-- Carried by `entry_put`: three stores, one behind the other, are one.
+use mathlib.Core.Path.{refl, ◌∙◌}
+use lib.ListN.{length-set}
+use Rattle.inner_list.proofs.Ways.{entry_put}
+use native.Mathlib.Omega.{arith}
+use Rattle.inner_list.proofs.put_entry.Goals as goal
+
+pub put_at-requires : goal.put_at-requires
+put_at-requires c =
+    simp length-set (omega arith)
+
+pub copy_in-requires : goal.copy_in-requires
+copy_in-requires c =
+    omega (
+  arith,
+  c.put_at.auto.dst,
+  (length-set c.args.buf.now c.args.at c.args.kind),
+
+)
+
+pub shape_of-buf : goal.shape_of-buf
+shape_of-buf c =
+    c.copy_in.auto.dst ∙ c.put_at.auto.dst ∙ simp length-set
+
+pub returns : goal.returns
+returns c =
+    entry_put c.args.buf.now _ _ _ c.args.path.now c.args.at c.args.kind _
+    c.requires.0 refl refl c.put_at.ensures c.copy_in.ensures

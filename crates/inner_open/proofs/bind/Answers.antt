@@ -1,0 +1,18 @@
+-- Carried by `bind_is`: the row and the directories, put together again.
+use Rattle.pool_state.specs.InBuffers.{pool_rows, pool_dirs}
+use Rattle.inner_open.proofs.Ways.{normal_fits, bind_is}
+use Rattle.inner_open.proofs.bind.Goals as goal
+
+pub bind_row-requires : goal.bind_row-requires
+bind_row-requires c =
+    (pool_rows _ c.requires.pool.0, c.requires.pool.1, c.requires.pool.2)
+
+pub register_ancestors-requires : goal.register_ancestors-requires
+register_ancestors-requires c =
+    (pool_dirs _ c.requires.pool.0, c.requires.path_len_bound, normal_fits _ c.requires.pool.2)
+
+pub returns : goal.returns
+returns c =
+    let r = c.bind_row.ensures in
+    let d = c.register_ancestors.ensures in
+    bind_is _ c.requires.pool.0 _ _ _ _ _ _ _ r.0 r.1 d.0 d.1

@@ -1,0 +1,42 @@
+-- One law for each way out: `create_stopped`, `create_done`.
+use mathlib.Core.Path.{refl}
+use Rattle.inner_open.proofs.Ways.{spend_room, slot_device, push_room, bind_ready, answered, create_stopped, create_done}
+use Rattle.inner_open.proofs.create.Goals as goal
+
+pub pop_free-popped-requires : goal.pop_free-popped-requires
+pop_free-popped-requires c =
+    c.requires.free_nonzero.0
+
+pub next_generation-spent-requires : goal.next_generation-spent-requires
+next_generation-spent-requires c =
+    spend_room _ _ c.requires.ready c.requires.free_nonzero.0 c.requires.free_nonzero.1 _ c.pop_free-popped.ensures
+
+pub data_truncate-cut-requires : goal.data_truncate-cut-requires
+data_truncate-cut-requires c =
+    slot_device _ _ c.requires.ready c.requires.free_nonzero.0 c.requires.free_nonzero.1 _ c.pop_free-popped.ensures
+
+pub push_free-requires : goal.push_free-requires
+push_free-requires c =
+    push_room _ _ c.requires.ready c.requires.free_nonzero.0 c.requires.free_nonzero.1 _ c.pop_free-popped.ensures _
+    c.next_generation-spent.ensures
+
+pub returns-then-last-ne0 : goal.returns-then-last-ne0
+returns-then-last-ne0 c =
+    let p = c.requires in
+    answered _ _ _ _ _ _ _ _ c.refused.ensures
+    (create_stopped _ _ p.0 p.1.0.0 p.1.0.1 _ c.pop_free-popped.ensures _
+    c.next_generation-spent.ensures _ _ _ c.data_truncate-cut.ensures.same
+    c.if-last-ne0.true _ c.push_free.ensures)
+
+pub bind-made-requires : goal.bind-made-requires
+bind-made-requires c =
+    let p = c.requires in
+    bind_ready _ _ p.0 p.1.0.0 p.1.0.1 _ c.pop_free-popped.ensures _
+    c.next_generation-spent.ensures _ p.1.0.2 p.1.1
+
+pub returns : goal.returns
+returns c =
+    let p = c.requires in
+    create_done _ _ p.0 p.1.0.0 p.1.0.1 _ c.pop_free-popped.ensures _
+    c.next_generation-spent.ensures _ _ _ c.data_truncate-cut.ensures.same
+    c.if-last-ne0.false _ refl _ c.bind-made.ensures

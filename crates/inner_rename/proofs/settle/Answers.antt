@@ -1,0 +1,34 @@
+-- One law for each way out: `settle_stopped`, `settle_done`.
+use Rattle.inner_rename.proofs.Ways.{row_ready, bind_ready, settle_stopped, settle_done}
+use Rattle.inner_rename.proofs.settle.Goals as goal
+
+pub vacate-freed-requires-clause-ready : goal.vacate-freed-requires-clause-ready
+vacate-freed-requires-clause-ready c =
+    c.requires.ready
+
+pub vacate-freed-requires-clause-fact : goal.vacate-freed-requires-clause-fact
+vacate-freed-requires-clause-fact c =
+    c.requires.fact
+
+pub bind_row-requires : goal.bind_row-requires
+bind_row-requires c =
+    let p = c.requires in
+    row_ready _ _ p.0 _ _ _ _ p.1.0 p.1.1.0 p.1.1.1 p.1.1.2 _ _ _ _ c.vacate-freed.ensures
+
+pub returns-then-last-ne0 : goal.returns-then-last-ne0
+returns-then-last-ne0 c =
+    let p = c.requires in
+    let r = c.bind_row.ensures in
+    settle_stopped _ _ p.0 _ _ _ _ p.1.0 p.1.1.0 p.1.1.1 p.1.1.2 _ _ _ _ c.vacate-freed.ensures _ _
+    c.if-last-ne0.true _ _ r.0 r.1
+
+pub bind-made-requires : goal.bind-made-requires
+bind-made-requires c =
+    let p = c.requires in
+    bind_ready _ _ p.0 _ _ _ _ p.1.0 p.1.1.0 p.1.1.1 p.1.1.2 _ _ _ _ c.vacate-freed.ensures
+
+pub returns : goal.returns
+returns c =
+    let p = c.requires in
+    settle_done _ _ p.0 _ _ _ _ p.1.0 p.1.1.0 p.1.1.1 p.1.1.2 _ _ _ _ c.vacate-freed.ensures _ _
+    c.if-last-ne0.false _ c.bind-made.ensures

@@ -1,0 +1,17 @@
+-- One law for each way out: `vacate_none`, `vacate_done`.
+use Rattle.inner_rename.proofs.Ways.{vacate_none, vacate_done}
+use Rattle.inner_rename.proofs.vacate.Goals as goal
+
+pub returns-then-n-j : goal.returns-then-n-j
+returns-then-n-j c =
+    vacate_none _ _ _ _ c.requires.ready.pool c.if-n-j.true
+
+pub release-requires : goal.release-requires
+release-requires c =
+    let p = c.requires in
+    let h = c.if-n-j.false in
+    (p.0, (h, (p.1 h).0, (p.1 h).1))
+
+pub returns : goal.returns
+returns c =
+    vacate_done _ _ _ _ c.if-n-j.false _ c.release.ensures

@@ -1,0 +1,48 @@
+-- The invariant `Picking`: what is still to be picked makes the whole of it.
+use Prim.Native.Nat.{◌-◌}
+use mathlib.Core.Path.{sym, ◌∙◌}
+use Rattle.slot_rows.specs.Rows.{is_bound}
+use Rattle.row_order.specs.Spans.{file_span}
+use Rattle.row_order.specs.Picks.{picking_start, picking_yes, picking_no, picking_end, file_spans_lem}
+use native.Mathlib.Omega.{arith}
+use Rattle.row_order.proofs.all_files.Goals as goal
+
+pub loop-i-init : goal.loop-i-init
+loop-i-init c =
+    picking_start _ _ _ _
+
+pub is_bound-requires : goal.is_bound-requires
+is_bound-requires c =
+    (c.requires.0, c.loop-i-test.true)
+
+pub file_span-requires : goal.file_span-requires
+file_span-requires c =
+    (c.requires.0, c.loop-i-test.true, c.requires.1)
+
+pub offset_bounds-spans-count : goal.offset_bounds-spans-count
+offset_bounds-spans-count c =
+    omega (arith, c.loop-i.invariant.few, c.loop-i.invariant.long)
+
+pub bounds-spans-count : goal.bounds-spans-count
+bounds-spans-count c =
+    omega (arith, c.loop-i.invariant.few, c.loop-i.invariant.long)
+
+pub overflow_add-count : goal.overflow_add-count
+overflow_add-count c =
+    omega (arith, c.loop-i.invariant.few, c.loop-i.invariant.long)
+
+pub loop-i-preserved-then-is_bound : goal.loop-i-preserved-then-is_bound
+loop-i-preserved-then-is_bound c =
+    picking_yes _ _ _ _ _ _ _ c.loop-i.invariant c.loop-i-test.true _ (sym c.is_bound.ensures ∙ c.if-is_bound.true) c.file_span.ensures
+
+pub loop-i-preserved : goal.loop-i-preserved
+loop-i-preserved c =
+    picking_no _ _ _ _ _ _ _ c.loop-i.invariant c.loop-i-test.true (sym c.is_bound.ensures ∙ c.if-is_bound.false)
+
+pub shape_of-spans : goal.shape_of-spans
+shape_of-spans c =
+    c.loop-i.invariant.long
+
+pub returns : goal.returns
+returns c =
+    picking_end _ _ _ _ _ _ _ c.loop-i.invariant _ c.loop-i-test.false (file_spans_lem _ _ _)

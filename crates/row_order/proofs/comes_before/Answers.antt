@@ -1,0 +1,15 @@
+-- Carried by `way_told`: the two parts that are lent are what the numbers spell.
+use Rattle.row_order.proofs.Turns.{way_told}
+use Rattle.row_order.proofs.comes_before.Goals as goal
+
+pub returns-in-Less : goal.returns-in-Less
+returns-in-Less c =
+    way_told _ _ _ _ _ c.compare-way.ensures c.enum_told-1.given.1
+
+pub returns-in-Equal : goal.returns-in-Equal
+returns-in-Equal c =
+    way_told _ _ _ _ _ c.compare-way.ensures c.enum_told-in-Equal-1.given.1
+
+pub returns-in-Greater : goal.returns-in-Greater
+returns-in-Greater c =
+    way_told _ _ _ _ _ c.compare-way.ensures c.enum_told-in-Greater-1.given.1

@@ -1,0 +1,48 @@
+-- Carried by `rows_are`: the rows are fresh, and what was run over them is what the script comes to.
+use mathlib.Core.Path.{◌∙◌, ap, sym}
+use Prim.Native.Nat.{◌*◌}
+use lib.Seq.{length-take-le}
+use Rattle.limits.specs.Limits.{max_path, row_width, dir_width}
+use Rattle.output.specs.Writer.{shown}
+use Rattle.script_step.specs.Operate.{Said}
+use Rattle.script_step.proofs.Ways.{fresh_front, fresh_length}
+use Rattle.script.specs.Script.{closed}
+use Rattle.script.proofs.Ways.{closed_parts, rows_are}
+use native.Mathlib.Omega.{arith}
+use Rattle.script.proofs.on_rows.Reads as reads
+use Rattle.script.proofs.on_rows.Lts as lts
+use Rattle.script.proofs.no_dirs.Reads as no-dirs-reads
+use Rattle.script.proofs.no_names.Reads as no-names-reads
+use Rattle.script.proofs.no_nums.Reads as no-nums-reads
+use Rattle.mount.proofs.zero.Reads as zero-reads
+use Rattle.script.proofs.run_all.Reads as run-all-reads
+use Rattle.script.proofs.on_rows.Goals as goal
+
+pub slice_bounds-run_all-end-2 : goal.slice_bounds-run_all-end-2
+slice_bounds-run_all-end-2 c =
+    sym (length-take-le (c.args.setup.rows * row_width) c.no_nums-nums.result
+    (omega (arith, fresh_length 264 0 c.no_nums-nums.result c.no_nums-nums.ensures, c.requires.0.rows)))
+
+pub slice_bounds-run_all-end-3 : goal.slice_bounds-run_all-end-3
+slice_bounds-run_all-end-3 c =
+    sym (length-take-le (c.args.setup.rows * max_path) c.no_names-names.result
+    (omega (arith, fresh_length 31680 0 c.no_names-names.result c.no_names-names.ensures, c.requires.0.rows)))
+
+pub slice_bounds-run_all-end-4 : goal.slice_bounds-run_all-end-4
+slice_bounds-run_all-end-4 c =
+    sym (length-take-le (c.args.setup.dir_rows * dir_width) c.no_dirs-dirs.result
+    (omega (arith, fresh_length 124356 0 c.no_dirs-dirs.result c.no_dirs-dirs.ensures, c.requires.0.dir_rows_lem)))
+
+pub returns : goal.returns
+returns c =
+    let u = c.args.setup in
+    let p = closed_parts _ _ _ _
+    (c.run_all-ran.ensures ∙ ap (λ (y : Said). closed y (shown c.args.out.now 0))
+    (rows_are c.args.script.now u c.args.bytes.now c.args.phys.now
+    c.args.from _ _ _ _ c.zero.ensures
+    (fresh_front (u.rows * row_width) 264 0 c.no_nums-nums.result c.no_nums-nums.ensures (omega (arith, c.requires.0.rows)))
+    (fresh_front (u.rows * max_path) 31680 0 c.no_names-names.result c.no_names-names.ensures
+    (omega (arith, c.requires.0.rows)))
+    (fresh_front (u.dir_rows * dir_width) 124356 0 c.no_dirs-dirs.result c.no_dirs-dirs.ensures
+    (omega (arith, c.requires.0.dir_rows_lem))))) in
+    (p.0, (p.1, p.2))

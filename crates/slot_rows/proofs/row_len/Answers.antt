@@ -1,0 +1,14 @@
+-- Carried by `num_len`: the third number is the file's length.
+use native.Mathlib.Omega.{arith}
+use mathlib.Core.Path.{◌∙◌}
+use Rattle.slot_rows.proofs.Fields.{num_len}
+use Rattle.slot_rows.proofs.row_len.Goals as goal
+
+pub num-requires : goal.num-requires
+num-requires c =
+    let pre = c.requires in
+    (pre.0, pre.1, omega arith)
+
+pub returns : goal.returns
+returns c =
+    c.num.ensures ∙ num_len _
