@@ -11,7 +11,6 @@ ghost use Rattle.demo.specs.Story.{says_of};
 use calls_gate::{Call, Reply};
 use device::{Geometry, Place};
 use header::{Decoded, Header};
-use libc::STDOUT_FILENO;
 use pool_state::Pool;
 
 // What a slot's header block says.

@@ -8,7 +8,6 @@ ghost use Rattle.std.specs.Prelude.{◌≡◌, min, length};
 
 use calls_gate::{Call, Reply};
 use device::{Geometry, Place};
-use libc::STDOUT_FILENO;
 use pool_state::Pool;
 
 // ---- what is lent

@@ -3,7 +3,6 @@
 // many scripts there were. What it prints can't be said in a contract, and is compared with the file stdout.
 #![tactic(auto)]
 
-use libc::{STDIN_FILENO, STDOUT_FILENO};
 
 // How many entries were replayed, how many of them differ, and whether there may be more.
 #[derive(Clone, Copy)]

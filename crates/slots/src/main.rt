@@ -11,7 +11,6 @@ ghost use Rattle.slots.specs.Room.{RoomAt, AnswerWaits};
 
 use calls_gate::Call;
 use device::Place;
-use libc::{STDIN_FILENO, STDOUT_FILENO};
 use pool_state::Pool;
 
 // No answer is longer (`answers_fit`): a dump has at most 4 files and 8 directories.

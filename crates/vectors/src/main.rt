@@ -7,7 +7,6 @@
 ghost use Rattle.std.specs.Prelude.{◌≤◌};
 
 use header::{Decoded, Header};
-use libc::STDOUT_FILENO;
 
 fn main() {
     others();
