@@ -17,7 +17,7 @@ returns-in_default c =
     let r = c.header_read-got.ensures in
     let z = c.zeros-block.ensures in let all = slot_absent _ _ _ _ _ _ _ _ c.requires.shape.1 c.requires.i_lt_cap.0 _ (place_is _ _ _ _ _ _ _ z r)
     (read_done _ _ _ _ _ _ _ z r c.if-last-eq10.false)
-    (head_absent _ _ _ c.decode.ensures _ (said _ _ _ _ _ _ _ z r) c.enum_told-1.given.1) in
+    (head_absent _ _ _ c.decode.ensures _ (said _ _ _ _ _ _ _ z r) c.in_default.is) in
     record { place = all.0; failed = all.1.0; asked = all.1.1.0; rows = all.1.1.1.0; flat = all.1.1.1.1.0; kept = all.1.1.1.1.1 }
 
 pub overflow_add-end : goal.overflow_add-end
