@@ -19,8 +19,7 @@ unbind_row-requires c =
 
 pub loop-i-preserved : goal.loop-i-preserved
 loop-i-preserved c =
-    let w : (length c.args.losers ≡ 64) = search rules in
-    (
+    let w : (length c.args.losers ≡ 64) = search rules in (
       omega arith,
       c.unbind_row.ensures.flat,
       vacated_more _ _ _ _ _ _ c.loop-i-test.true
@@ -37,5 +36,8 @@ shape_of-names c =
 
 pub returns : goal.returns
 returns c =
-    let w : length c.args.losers ≡ 64 = search rules in record { rows = vacated_done c.args.losers c.args.count c.loop-i.i _ _ (omega arith) (omega arith)
-          c.loop-i.invariant.2; flat = c.loop-i.invariant.1 }
+    let w : length c.args.losers ≡ 64 = search rules in record {
+      rows = vacated_done c.args.losers c.args.count c.loop-i.i _ _ (omega arith) (omega arith)
+          c.loop-i.invariant.2;
+      flat = c.loop-i.invariant.1;
+    }

@@ -29,12 +29,11 @@ slice_bounds-bind_row-end c =
     omega (arith, path_fits _ _ _ c.decode.ensures _ c.in-Found.is, block_long _ _ _ _ _ _ _ c.zeros-block.ensures c.header_read-got.ensures)
 
 pub bind_row-requires : goal.bind_row-requires
-bind_row-requires c =
-    (
-      (rows_grow _ _ 1 _ _ c.requires.shape.1 (omega (arith, c.requires.i_lt_cap.0))).1,
-      omega arith,
-      part_short _ _ _ c.decode.ensures _ c.in-Found.is,
-    )
+bind_row-requires c = (
+  (rows_grow _ _ 1 _ _ c.requires.shape.1 (omega (arith, c.requires.i_lt_cap.0))).1,
+  omega arith,
+  part_short _ _ _ c.decode.ensures _ c.in-Found.is,
+)
 
 pub returns-then-is_claim : goal.returns-then-is_claim
 returns-then-is_claim c =
