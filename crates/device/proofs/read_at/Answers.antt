@@ -39,4 +39,4 @@ returns c =
     let s = slotted c.requires.shape c.requires.slot_in_bounds in
     let k = share_le c.turn_of-byte.result c.least.result in
     read_done a.plan.now a.geometry a.slot a.pos a.dst.now a.bytes.now a.phys.now a.place c.turn_of-byte.ensures c.if-byte-eq1.false
-    c.least.ensures c.share_of-n.ensures (omega arith) c.copy.ensures.1 c.next-2.ensures
+    c.least.ensures c.share_of-n.ensures (omega arith) c.copy_from_slice.ensures.after c.next-2.ensures

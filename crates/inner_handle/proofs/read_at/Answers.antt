@@ -16,20 +16,20 @@ pub returns-then-not-live : goal.returns-then-not-live
 unfolding read_at_m
 returns-then-not-live c =
     stale _ _ _ _ _ c.requires.pool
-    (sym c.live.ensures ∙ not-true c.live.result c.if-not-live.true)
+    (sym c.live.ensures ∙ c.if-not-live.true)
 
 pub row_len-len-requires : goal.row_len-len-requires
 row_len-len-requires c =
     (
       pool_rows _ c.requires.pool,
       (live_row _ _ _ _ _
-          (sym c.live.ensures ∙ not-false c.live.result c.if-not-live.false)).0,
+          (sym c.live.ensures ∙ c.if-not-live.false)).0,
     )
 
 pub returns-then-len-at : goal.returns-then-len-at
 unfolding read_at_m
 returns-then-len-at c =
-    goes _ _ _ _ _ _ (sym c.live.ensures ∙ not-false c.live.result c.if-not-live.false)
+    goes _ _ _ _ _ _ (sym c.live.ensures ∙ c.if-not-live.false)
     (read_none _ _ _ _ _ _ c.requires.pool _ c.row_len-len.ensures c.if-len-at.true)
 
 pub slice_bounds-data_read-end-2 : goal.slice_bounds-data_read-end-2
@@ -39,12 +39,12 @@ slice_bounds-data_read-end-2 c =
 pub data_read-got-requires : goal.data_read-got-requires
 data_read-got-requires c =
     live_device _ _ c.requires _ _
-    (sym c.live.ensures ∙ not-false c.live.result c.if-not-live.false)
+    (sym c.live.ensures ∙ c.if-not-live.false)
 
 pub returns : goal.returns
 unfolding read_at_m
 returns c =
-    goes _ _ _ _ _ _ (sym c.live.ensures ∙ not-false c.live.result c.if-not-live.false)
+    goes _ _ _ _ _ _ (sym c.live.ensures ∙ c.if-not-live.false)
     (read_some _ _ _ _ _ _ c.requires.pool _ c.row_len-len.ensures
     c.if-len-at.false _
     c.wanted-want.ensures _ _ c.data_read-got.ensures)

@@ -14,12 +14,12 @@ pub returns-then-not-live : goal.returns-then-not-live
 unfolding set_len_m
 returns-then-not-live c =
     stale _ _ _ _ _ c.requires.pool
-    (sym c.live.ensures ∙ not-true c.live.result c.if-not-live.true)
+    (sym c.live.ensures ∙ c.if-not-live.true)
 
 pub data_truncate-cut-requires : goal.data_truncate-cut-requires
 data_truncate-cut-requires c =
     live_device _ _ c.requires _ _
-    (sym c.live.ensures ∙ not-false c.live.result c.if-not-live.false)
+    (sym c.live.ensures ∙ c.if-not-live.false)
 
 pub returns-then-last-ne0 : goal.returns-then-last-ne0
 returns-then-last-ne0 c =
@@ -35,7 +35,7 @@ set_row_len-requires c =
 
 pub returns : goal.returns
 returns c =
-    let e = sym c.live.ensures ∙ not-false c.live.result c.if-not-live.false in
+    let e = sym c.live.ensures ∙ c.if-not-live.false in
     let s = c.set_row_len.ensures in
     set_len_is _ _ _ _ _ e _ _
     (resize_done _ _ c.requires _ _ _ _ c.data_truncate-cut.ensures.same c.if-last-ne0.false

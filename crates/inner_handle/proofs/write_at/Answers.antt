@@ -17,23 +17,23 @@ pub returns-then-not-live : goal.returns-then-not-live
 unfolding write_at_m
 returns-then-not-live c =
     stale _ _ _ _ _ c.requires.pool
-    (sym c.live.ensures ∙ not-true c.live.result c.if-not-live.true)
+    (sym c.live.ensures ∙ c.if-not-live.true)
 
 pub row_len-len-requires : goal.row_len-len-requires
 row_len-len-requires c =
     (
       pool_rows _ c.requires.pool,
-      (live_row _ _ _ _ _ (sym c.live.ensures ∙ not-false c.live.result c.if-not-live.false)).0,
+      (live_row _ _ _ _ _ (sym c.live.ensures ∙ c.if-not-live.false)).0,
     )
 
 pub data_write-put-requires : goal.data_write-put-requires
 data_write-put-requires c =
     live_device _ _ c.requires _ _
-    (sym c.live.ensures ∙ not-false c.live.result c.if-not-live.false)
+    (sym c.live.ensures ∙ c.if-not-live.false)
 
 pub returns-then-last-ne0 : goal.returns-then-last-ne0
 returns-then-last-ne0 c =
-    write_at_is _ _ _ _ _ (sym c.live.ensures ∙ not-false c.live.result c.if-not-live.false) _ _ _
+    write_at_is _ _ _ _ _ (sym c.live.ensures ∙ c.if-not-live.false) _ _ _
     _ _ c.row_len-len.ensures refl
     (resize_stopped _ _ c.requires _ _ _ _ c.data_write-put.ensures.same c.if-last-ne0.true)
 
@@ -55,7 +55,7 @@ set_row_len-requires c =
 
 pub returns : goal.returns
 returns c =
-    let e = sym c.live.ensures ∙ not-false c.live.result c.if-not-live.false in
+    let e = sym c.live.ensures ∙ c.if-not-live.false in
     let s = c.set_row_len.ensures in
     write_at_is _ _ _ _ _ e _ _ _ _ _ c.row_len-len.ensures
     c.greater-reach.ensures

@@ -19,4 +19,4 @@ returns c =
     let block = c.put_at.new.dst in
     let n : 32 + 480 ≡ length block = omega arith in
     steps a.self path c.zeros-block.result c.zeros-block.ensures c.put_fixed.ensures c.fnv1a32-part.ensures
-    c.fnv1a32-check.ensures c.put_at.ensures (copy_back 32 480 block path n c.copy.ensures.1)
+    c.fnv1a32-check.ensures c.put_at.ensures (copy_back 32 480 block path n c.copy_from_slice.ensures.after)
