@@ -2,7 +2,6 @@
 use mathlib.Core.Path.{sym, ◌∙◌}
 use lib.Seq.{length-take-le}
 use Rattle.pool_state.specs.InBuffers.{pool_rows}
-use borrow.Author.Tests.{not-true, not-false}
 use native.Mathlib.Omega.{arith}
 use Rattle.inner_handle.specs.Handles.{read_at_m}
 use Rattle.inner_handle.proofs.Ways.{live_row, live_device, stale, goes, read_none, read_some}
@@ -38,8 +37,9 @@ slice_bounds-data_read-end-2 c =
 
 pub data_read-got-requires : goal.data_read-got-requires
 data_read-got-requires c =
-    live_device _ _ c.requires _ _
-    (sym c.live.ensures ∙ c.if-not-live.false)
+    let all = live_device _ _ c.requires _ _
+    (sym c.live.ensures ∙ c.if-not-live.false) in
+    record { shape = all.0; slot_in_bounds = all.1 }
 
 pub returns : goal.returns
 unfolding read_at_m

@@ -1,7 +1,7 @@
 -- One law for each way out: `stale`, then `set_len_is` with `resize_stopped` and `resize_done`.
 use mathlib.Core.Path.{sym, ◌∙◌}
 use Rattle.pool_state.specs.InBuffers.{pool_rows}
-use borrow.Author.Tests.{not-true, not-false}
+use borrow.Author.Tests.{not-false}
 use Rattle.inner_handle.specs.Handles.{set_len_m}
 use Rattle.inner_handle.proofs.Ways.{live_row, live_device, stale, resize_stopped, resize_done, set_len_is}
 use Rattle.inner_handle.proofs.set_len.Goals as goal
@@ -18,8 +18,9 @@ returns-then-not-live c =
 
 pub data_truncate-cut-requires : goal.data_truncate-cut-requires
 data_truncate-cut-requires c =
-    live_device _ _ c.requires _ _
-    (sym c.live.ensures ∙ c.if-not-live.false)
+    let all = live_device _ _ c.requires _ _
+    (sym c.live.ensures ∙ c.if-not-live.false) in
+    record { shape = all.0; slot_in_bounds = all.1 }
 
 pub returns-then-last-ne0 : goal.returns-then-last-ne0
 returns-then-last-ne0 c =
@@ -36,7 +37,7 @@ set_row_len-requires c =
 pub returns : goal.returns
 returns c =
     let e = sym c.live.ensures ∙ c.if-not-live.false in
-    let s = c.set_row_len.ensures in
+    let s = (c.set_row_len.ensures.rows, c.set_row_len.ensures.flat) in
     set_len_is _ _ _ _ _ e _ _
     (resize_done _ _ c.requires _ _ _ _ c.data_truncate-cut.ensures.same c.if-last-ne0.false
     _ s.0 s.1)

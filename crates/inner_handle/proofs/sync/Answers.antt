@@ -1,7 +1,7 @@
 -- One law for each way out: `stale`, `sync_dirty`, `sync_clean`.
 use mathlib.Core.Path.{sym, ◌∙◌}
 use Rattle.pool_state.specs.InBuffers.{pool_rows}
-use borrow.Author.Tests.{not-true, not-false}
+use borrow.Author.Tests.{not-false}
 use Rattle.inner_handle.specs.Handles.{sync_m}
 use Rattle.inner_handle.proofs.Ways.{live_row, stale, sync_dirty, sync_clean}
 use Rattle.inner_handle.proofs.sync.Goals as goal

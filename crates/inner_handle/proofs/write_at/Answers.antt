@@ -3,7 +3,7 @@ use Prim.Native.Nat.{◌+◌, ◌≤◌}
 use lib.ListN.{length}
 use mathlib.Core.Path.{sym, ◌∙◌, refl}
 use Rattle.pool_state.specs.InBuffers.{pool_rows}
-use borrow.Author.Tests.{not-true, not-false}
+use borrow.Author.Tests.{not-false}
 use native.Mathlib.Omega.{arith}
 use Rattle.inner_handle.specs.Handles.{write_at_m}
 use Rattle.inner_handle.proofs.Ways.{live_row, live_device, stale, resize_stopped, resize_done, write_inside, write_at_is}
@@ -28,8 +28,9 @@ row_len-len-requires c =
 
 pub data_write-put-requires : goal.data_write-put-requires
 data_write-put-requires c =
-    live_device _ _ c.requires _ _
-    (sym c.live.ensures ∙ c.if-not-live.false)
+    let all = live_device _ _ c.requires _ _
+    (sym c.live.ensures ∙ c.if-not-live.false) in
+    record { shape = all.0; slot_in_bounds = all.1 }
 
 pub returns-then-last-ne0 : goal.returns-then-last-ne0
 returns-then-last-ne0 c =
@@ -56,7 +57,7 @@ set_row_len-requires c =
 pub returns : goal.returns
 returns c =
     let e = sym c.live.ensures ∙ c.if-not-live.false in
-    let s = c.set_row_len.ensures in
+    let s = (c.set_row_len.ensures.rows, c.set_row_len.ensures.flat) in
     write_at_is _ _ _ _ _ e _ _ _ _ _ c.row_len-len.ensures
     c.greater-reach.ensures
     (resize_done _ _ c.requires _ _ _ _ c.data_write-put.ensures.same c.if-last-ne0.false

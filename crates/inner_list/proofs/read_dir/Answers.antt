@@ -6,7 +6,6 @@ use Rattle.dir_rows.specs.Rows.{dirs_of}
 use Rattle.inner_list.specs.Parts.{child_files, child_dirs}
 use native.Mathlib.Omega.{arith}
 use mathlib.Core.Path.{sym, ◌∙◌, ◌≡◌}
-use borrow.Author.Tests.{not-true, not-false}
 use Rattle.inner_list.proofs.Outs.{files_front, folders_front, dirs_lent, files_ready, dirs_ready, size_low, not_held, too_small, fill_ready, done, Front}
 use Rattle.inner_list.proofs.read_dir.Goals as goal
 
@@ -17,7 +16,7 @@ start c =
     after-start-2.before.before
 
 found : (c : tie.After-child-files) → has_path (dirs_of (start c).args.dirs.now (start c).args.pool.dirs) (start c).args.path.now ≡ true
-found c = sym c.before.before.before.dir-find.ensures ∙ not-false _ c.before.before.if1.false
+found c = sym c.before.before.before.dir-find.ensures ∙ c.before.before.if1.false
 
 files : (c : tie.After-child-files) → Front (child_files (start c).args.path.now (rows_of (start c).args.nums.now (start c).args.names.now (start c).args.pool.held)) c.child_files_lem.result c.child_files_lem.new.1.1.1.1.1.0
 files c = files_front _ (start c).requires _ _ _ c.child_files_lem.ensures
@@ -31,7 +30,7 @@ dir_find-requires c =
 
 pub returns-then-not-dir_find : goal.returns-then-not-dir_find
 returns-then-not-dir_find c =
-    not_held _ c.requires _ _ (sym c.dir_find.ensures ∙ not-true _ c.if-not-dir_find.true)
+    not_held _ c.requires _ _ (sym c.dir_find.ensures ∙ c.if-not-dir_find.true)
 
 pub child_files-f-requires : goal.child_files-f-requires
 child_files-f-requires c =

@@ -1,6 +1,5 @@
 -- One law for each way out: `rename_stopped`, `rename_failed`, `rename_done`.
 use mathlib.Core.Path.{◌∙◌}
-use borrow.Author.Tests.{not-true, not-false}
 use Rattle.pool_state.specs.InBuffers.{pool_rows}
 use Rattle.inner_rename.proofs.Ways.{from_held, rebind_ready, settle_ready, rename_stopped, rename_failed, rename_done}
 use Rattle.inner_rename.proofs.rename.Goals as goal
@@ -23,8 +22,9 @@ row_len-len-requires c =
 
 pub rebind-moved-requires : goal.rebind-moved-requires
 rebind-moved-requires c =
-    rebind_ready _ _ c.requires c.args.plan.now _ _ _ c.front-f.ensures
-    (c.if-not-go.false)
+    let all = rebind_ready _ _ c.requires c.args.plan.now _ _ _ c.front-f.ensures
+    (c.if-not-go.false) in
+    record { ready = all.0; i_lt_held = all.1 }
 
 pub returns-then-last-ne0 : goal.returns-then-last-ne0
 returns-then-last-ne0 c =
@@ -33,8 +33,9 @@ returns-then-last-ne0 c =
 
 pub settle-requires : goal.settle-requires
 settle-requires c =
-    settle_ready _ _ c.requires _ _ _ _ c.front-f.ensures
-    (c.if-not-go.false) _ _ _ c.rebind-moved.ensures
+    let all = settle_ready _ _ c.requires _ _ _ _ c.front-f.ensures
+    (c.if-not-go.false) _ _ _ c.rebind-moved.ensures in
+    record { ready = all.0; fact = all.1.0; i_lt_held = all.1.1 }
 
 pub shape_of-bytes : goal.shape_of-bytes
 shape_of-bytes c =

@@ -1,6 +1,5 @@
 -- One law for each way out: `dump_no`, `dump_yes`.
 use mathlib.Core.Path.{sym, ◌∙◌}
-use borrow.Author.Tests.{not-true, not-false}
 use Rattle.pool_test.proofs.Exactly.{is_pool_of}
 use Rattle.line_dump.proofs.Ways.{dump_no, dump_yes}
 use Rattle.line_dump.proofs.say_dump.Goals as goal

@@ -13,9 +13,9 @@ loop-i-init c =
 
 pub release-s-requires : goal.release-s-requires
 release-s-requires c =
-    let w : (length c.args.t10 ≡ 64) = search rules in
-    draining_first _ _ c.args.t10 _ _ _ _ c.loop-i.invariant.1 (omega arith)
-    c.loop-i-test.true
+    let w : (length c.args.t10 ≡ 64) = search rules in let all = draining_first _ _ c.args.t10 _ _ _ _ c.loop-i.invariant.1 (omega arith)
+    c.loop-i-test.true in
+    record { ready = all.0; slot_lt_held = all.1 }
 
 pub overflow_add-i : goal.overflow_add-i
 overflow_add-i c =

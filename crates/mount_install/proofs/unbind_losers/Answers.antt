@@ -37,9 +37,5 @@ shape_of-names c =
 
 pub returns : goal.returns
 returns c =
-    let w : length c.args.t5 ≡ 64 = search rules in
-    (
-      vacated_done c.args.t5 c.args.count c.loop-i.i _ _ (omega arith) (omega arith)
-          c.loop-i.invariant.2,
-      c.loop-i.invariant.1,
-    )
+    let w : length c.args.t5 ≡ 64 = search rules in record { rows = vacated_done c.args.t5 c.args.count c.loop-i.i _ _ (omega arith) (omega arith)
+          c.loop-i.invariant.2; flat = c.loop-i.invariant.1 }

@@ -25,12 +25,11 @@ slice_bounds-put_header-end c =
 
 pub put_header-put-requires : goal.put_header-put-requires
 put_header-put-requires c =
-    let r = row_part _ _ c.requires.ready _ c.requires.i_lt_held.0 _ c.row_header-header.ensures in
-    (on_device _ _ _ c.requires.ready c.requires.i_lt_held.0, (r.2, r.3))
+    let r = row_part _ _ c.requires.ready _ c.requires.i_lt_held.0 _ c.row_header-header.ensures in record { shape = on_device _ _ _ c.requires.ready c.requires.i_lt_held.0; path_len = (r.2, r.3) }
 
 pub returns-then-last-ne0 : goal.returns-then-last-ne0
 returns-then-last-ne0 c =
-    let p = c.requires in
+    let p = (c.requires.ready, c.requires.i_lt_held) in
     let h = c.row_header-header.ensures in
     let r = row_part _ _ p.0 _ p.1.0 _ h in
     sync_stopped _ _ p.0 _ _ _ _ _ h r.1 c.put_header-put.ensures.same c.if-last-ne0.true
@@ -41,8 +40,8 @@ clean_row-requires c =
 
 pub returns : goal.returns
 returns c =
-    let p = c.requires in
+    let p = (c.requires.ready, c.requires.i_lt_held) in
     let h = c.row_header-header.ensures in
     let r = row_part _ _ p.0 _ p.1.0 _ h in
-    let k = c.clean_row.ensures in
+    let k = (c.clean_row.ensures.rows, c.clean_row.ensures.flat) in
     sync_done _ _ p.0 _ _ _ _ _ h r.1 c.put_header-put.ensures.same _ k.0 k.1 c.if-last-ne0.false

@@ -3,7 +3,6 @@ use mathlib.Core.Path.{◌∙◌, sym, subst, ◌≡◌}
 use mathlib.Core.Bool.{Bool}
 use Prim.Native.Nat.{ℕ, ◌≤◌, ◌<◌, ◌+◌}
 use lib.ListN.{length}
-use borrow.Author.Tests.{not-true, not-false}
 use Rattle.script_format.specs.declared.Span.{Span}
 use Rattle.script_format.specs.Reading.{small, span_if_inside, field_lt}
 use Rattle.script_format.proofs.Ways.{args_short, args_first, args_second, args_whole}
@@ -45,7 +44,7 @@ returns-then-s-at_runs c =
 
 pub returns-then-not-first : goal.returns-then-not-first
 returns-then-not-first c =
-    c.no_op-then-not-first.ensures ∙ args_first _ _ _ _ c.requires.1 c.if-s-at_runs.false _ c.run_if-first.ensures (not-true _ c.if-not-first.true)
+    c.no_op-then-not-first.ensures ∙ args_first _ _ _ _ c.requires.1 c.if-s-at_runs.false _ c.run_if-first.ensures (c.if-not-first.true)
 
 pub run_if-second-requires : goal.run_if-second-requires
 run_if-second-requires c =
@@ -53,7 +52,7 @@ run_if-second-requires c =
 
 pub returns-then-not-second : goal.returns-then-not-second
 returns-then-not-second c =
-    c.no_op-then-not-second.ensures ∙ args_second _ _ _ _ c.requires.1 c.if-s-at_runs.false _ c.run_if-first.ensures (not-false _ c.if-not-first.false) _ c.run_if-second.ensures (not-true _ c.if-not-second.true)
+    c.no_op-then-not-second.ensures ∙ args_second _ _ _ _ c.requires.1 c.if-s-at_runs.false _ c.run_if-first.ensures (c.if-not-first.false) _ c.run_if-second.ensures (c.if-not-second.true)
 
 pub get_at-requires : goal.get_at-requires
 get_at-requires c =
@@ -94,5 +93,5 @@ get_at-requires-6 c =
 
 pub returns : goal.returns
 returns c =
-    args_whole _ _ _ _ c.requires.1 c.if-s-at_runs.false _ c.run_if-first.ensures (not-false _ c.if-not-first.false) _ c.run_if-second.ensures _ _ _ _ _ _ (not-false _ c.if-not-second.false) c.get_at.ensures c.get_at-2.ensures
+    args_whole _ _ _ _ c.requires.1 c.if-s-at_runs.false _ c.run_if-first.ensures (c.if-not-first.false) _ c.run_if-second.ensures _ _ _ _ _ _ (c.if-not-second.false) c.get_at.ensures c.get_at-2.ensures
     c.get_at-3.ensures c.get_at-4.ensures c.get_at-5.ensures c.get_at-6.ensures

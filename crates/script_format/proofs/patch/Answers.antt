@@ -3,7 +3,6 @@ use mathlib.Core.Path.{◌∙◌, ◌≡◌, sym, ap, refl}
 use mathlib.Core.Bool.{true}
 use Prim.Native.Nat.{ℕ, suc, ◌+◌, ◌-◌}
 use native.Mathlib.Nat.{sub-zero}
-use borrow.Author.Tests.{not-true, not-false}
 use Rattle.script_format.specs.declared.Span.{Span}
 use Rattle.script_format.specs.Format.{patching, patched_m}
 use Rattle.script_format.specs.Reading.{patch_end}
@@ -32,7 +31,7 @@ returns-then-not-run c =
     let n : c.args.count - c.loop-k.k ≡ suc (c.args.count - (c.loop-k.k + 1)) = omega arith in
     ap (λ (r : Span). patching r c.patch_one-run.new.bytes) c.no_span.ensures ∙ patches_stop _
     (c.args.count - (c.loop-k.k + 1)) _ _ _ _ c.patch_one-run.ensures
-    (not-true _ c.if-not-run.true) ∙ ap
+    (c.if-not-run.true) ∙ ap
     (λ (j : ℕ). patched_m c.args.s.now j c.loop-k.at c.loop-k.bytes) (sym n) ∙ c.loop-k.invariant.3
 
 pub loop-k-preserved : goal.loop-k-preserved
@@ -42,7 +41,7 @@ loop-k-preserved c =
       omega arith,
       c.patch_one-run.auto.bytes ∙ c.loop-k.invariant.2,
       patches_turn _ (c.args.count - (c.loop-k.k + 1)) _ _ _ _ c.patch_one-run.ensures
-          (not-false _ c.if-not-run.false) ∙ ap (λ (j : ℕ). patched_m c.args.s.now j c.loop-k.at c.loop-k.bytes)
+          (c.if-not-run.false) ∙ ap (λ (j : ℕ). patched_m c.args.s.now j c.loop-k.at c.loop-k.bytes)
           (sym n) ∙ c.loop-k.invariant.3,
     )
 

@@ -2,7 +2,6 @@
 use mathlib.Core.Path.{◌∙◌, ◌≡◌, sym, subst, ap}
 use mathlib.Core.List.{List}
 use Prim.Native.Nat.{ℕ, ◌<◌}
-use borrow.Author.Tests.{not-true, not-false}
 use Rattle.script_format.specs.declared.Span.{Span}
 use Rattle.script_format.specs.Format.{span_at, patching}
 use Rattle.script_format.specs.Reading.{Inside, span_inside, field_lt}
@@ -25,7 +24,7 @@ returns-then-s-from c =
 
 pub returns-then-not-run : goal.returns-then-not-run
 returns-then-not-run c =
-    ap (λ (r : Span). patching r c.args.bytes.now) c.no_span-then-not-run.ensures ∙ patch_cut _ _ _ c.if-s-from.false _ c.run_at-run.ensures (not-true _ c.if-not-run.true)
+    ap (λ (r : Span). patching r c.args.bytes.now) c.no_span-then-not-run.ensures ∙ patch_cut _ _ _ c.if-s-from.false _ c.run_at-run.ensures (c.if-not-run.true)
 
 pub overflow_sub-e : goal.overflow_sub-e
 overflow_sub-e c =
@@ -41,7 +40,7 @@ pub returns-then-bytes-place : goal.returns-then-bytes-place
 returns-then-bytes-place c =
     ap (λ (r : Span). patching r c.args.bytes.now) c.no_span-then-bytes-place.ensures ∙ patch_outside _ _ _
     c.if-s-from.false _ c.run_at-run.ensures
-    (not-false _ c.if-not-run.false) _ c.get_at-place.ensures c.if-bytes-place.true
+    (c.if-not-run.false) _ c.get_at-place.ensures c.if-bytes-place.true
 
 pub slice_bounds-put_bytes-count : goal.slice_bounds-put_bytes-count
 slice_bounds-put_bytes-count c =
@@ -58,5 +57,5 @@ slice_bounds-put_bytes-end c =
 pub returns : goal.returns
 returns c =
     patch_inside _ _ _ c.if-s-from.false _ c.run_at-run.ensures
-    (not-false _ c.if-not-run.false) _ c.get_at-place.ensures _ _
+    (c.if-not-run.false) _ c.get_at-place.ensures _ _
     c.if-bytes-place.false c.put_bytes.ensures

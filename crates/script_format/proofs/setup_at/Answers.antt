@@ -1,7 +1,6 @@
 -- One law for each way out: `setup_long`, `setup_short`, `setup_other`, `setup_large`, `setup_fits`.
 use mathlib.Core.Path.{◌∙◌, sym, subst}
 use Prim.Native.Nat.{ℕ, ◌<◌}
-use borrow.Author.Tests.{not-true, not-false}
 use Rattle.script_format.specs.Reading.{field_lt}
 use Rattle.script_format.proofs.Ways.{setup_long, setup_short, setup_other, setup_large, setup_fits}
 use native.Mathlib.Omega.{arith}
@@ -46,7 +45,7 @@ pub returns-then-not-limits_ok : goal.returns-then-not-limits_ok
 returns-then-not-limits_ok c =
     c.no_setup-then-not-limits_ok.ensures ∙ setup_large _ c.if-n-ge-LONGEST.false c.if-n-lt9.false
     c.if-s-ne1.false _ _ c.get_at-dir_rows.ensures c.get_at-size.ensures _
-    c.limits_ok.ensures (not-true _ c.if-not-limits_ok.true)
+    c.limits_ok.ensures (c.if-not-limits_ok.true)
 
 pub behind_plan-requires : goal.behind_plan-requires
 behind_plan-requires c =
@@ -56,4 +55,4 @@ pub returns : goal.returns
 returns c =
     setup_fits _ c.if-n-ge-LONGEST.false c.if-n-lt9.false c.if-s-ne1.false _ _
     c.get_at-dir_rows.ensures c.get_at-size.ensures _
-    c.limits_ok.ensures _ (not-false _ c.if-not-limits_ok.false) c.behind_plan.ensures
+    c.limits_ok.ensures _ (c.if-not-limits_ok.false) c.behind_plan.ensures
