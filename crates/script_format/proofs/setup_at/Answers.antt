@@ -33,13 +33,12 @@ overflow_cast-rows c =
     omega (arith, c.shared_slice_known-1.given 2)
 
 pub limits_ok-requires : goal.limits_ok-requires
-limits_ok-requires c =
-    (
-      omega (arith, c.shared_slice_known-1.given 1),
-      subst (λ (k : ℕ). k < 4294967296) (sym c.get_at-size.ensures)
-          (field_lt c.args.s.now 5 4 4
-          (λ j. omega (arith, c.shared_slice_known-1.given j)) (omega arith)),
-    )
+limits_ok-requires c = (
+  omega (arith, c.shared_slice_known-1.given 1),
+  subst (λ (k : ℕ). k < 4294967296) (sym c.get_at-size.ensures)
+      (field_lt c.args.s.now 5 4 4
+      (λ j. omega (arith, c.shared_slice_known-1.given j)) (omega arith)),
+)
 
 pub returns-then-not-limits_ok : goal.returns-then-not-limits_ok
 returns-then-not-limits_ok c =
