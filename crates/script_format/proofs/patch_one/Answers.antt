@@ -8,12 +8,6 @@ use Rattle.script_format.specs.Format.{span_at, patching}
 use Rattle.script_format.specs.Reading.{Inside, span_inside, field_lt}
 use Rattle.script_format.proofs.Ways.{patch_short, patch_cut, patch_outside, patch_inside}
 use native.Mathlib.Omega.{arith}
-use Rattle.script_format.proofs.patch_one.Reads as reads
-use Rattle.script_format.proofs.patch_one.Lts as lts
-use Rattle.le.proofs.get_at.Reads as get-at-reads
-use Rattle.script_format.proofs.no_span.Reads as no-span-reads
-use Rattle.script_format.proofs.run_at.Reads as run-at-reads
-use Rattle.output.proofs.put_bytes.Reads as put-bytes-reads
 use Rattle.script_format.proofs.patch_one.Goals as goal
 
 in-script : (s : List ℕ) (i : ℕ) (a : Span) → a ≡ span_at s i → Inside s i a
