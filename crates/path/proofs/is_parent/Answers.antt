@@ -17,6 +17,5 @@ returns-in-Nothing c =
 pub returns-in-At : goal.returns-in-At
 returns-in-At c =
     let args = c.args in
-    let up = c.up-1 in
     let parent-end = c.parent_end-up in
     c.same_path.ensures ∙ parent_some _ _ _ c.in-At.ensures

@@ -13,7 +13,6 @@ slice_bounds-normalize-end c =
 pub normalize-n-requires : goal.normalize-n-requires
 normalize-n-requires c =
     let args = c.args in
-    let up = c.up-1 in
     let parent-end = c.parent_end-up in
     let pre = c.requires in
     up_room _ _ _ c.in-At.ensures pre
@@ -26,7 +25,6 @@ returns-in-Nothing c =
 pub returns-in-At : goal.returns-in-At
 returns-in-At c =
     let args = c.args in
-    let up = c.up-1 in
     let parent-end = c.parent_end-up in let all = up_laid _ _ _ _ _ c.in-At.ensures
     (c.normalize-n.ensures.laid, c.normalize-n.ensures.long) in
     record { long = all.0; laid = all.1 }

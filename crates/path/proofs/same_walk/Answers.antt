@@ -78,7 +78,7 @@ loop-i-smaller c =
     let last = c.last-p in
     let loop = c.loop-i in
     let if1 = c.if-ps-pe in
-    omega (arith, last.ensures.ordered, part_inside _ _ _ _ loop.inv.0 last.ensures, if1.false)
+    omega (arith, last.ensures.ordered, part_inside _ _ _ _ loop.invariant.0 last.ensures, if1.false)
 
 pub loop-i-preserved : goal.loop-i-preserved
 loop-i-preserved c =
