@@ -1,6 +1,5 @@
 -- One law for each way out: `wrong_shape`, `no_text_lem`, `too_long_lem`, `out_of_range`, `not_refused`.
 use mathlib.Core.Path.{sym, ◌∙◌}
-use borrow.Author.Tests.{not-true, not-false}
 use Rattle.slot_calls.proofs.Ways.{wrong_shape, no_text_lem, too_long_lem, out_of_range, not_refused}
 use Rattle.slot_calls.proofs.refusal.Goals as goal
 
