@@ -42,7 +42,7 @@ class Names:
     def __init__(self, files):
         self.files = set(files)
         self.parents = {str(p) for name in files for p in Path(name).parents}
-        self.crates = {line.split(":")[0] for line in (ROOT / "crates.txt").read_text().splitlines() if re.match(r"\w+:", line)}
+        self.crates = set(re.findall(r"^(\w+)(?: staticlib)?:", (ROOT / "crates.txt").read_text(), re.M))
         self.listed = set()
         self.edits, self.defined, self.all, self.functions = set(), set(), set(), {}
         for name in files:
