@@ -34,9 +34,9 @@ fn inner(
 ) -> Went
     requires { refusal_of geometry call first.now second.now
         (lent (dev bytes.old phys.old place) (bufs pool nums.old names.old dirs.old)) ≡ 0 }
-    ensures { came result.out result.told (after bytes phys result.place nums names dirs result.pool) buf.new
+    ensures { came result.out result.told (after bytes.new phys.new result.place nums.new names.new dirs.new result.pool) buf.new
         ≡ inner_m plan.now geometry call first.now second.now buf.old
-        (before bytes phys place nums names dirs pool) }
+        (before bytes.old phys.old place nums.old names.old dirs.old pool) }
 {
     match call {
         Call::Mount { slots } => {
@@ -149,9 +149,9 @@ pub fn make(
     second: &[u8],
     buf: &mut [u8],
 ) -> Reply
-    ensures { replies result bytes phys nums names dirs buf
+    ensures { replies result bytes.new phys.new nums.new names.new dirs.new buf.new
         ≡ call_p plan.now geometry call first.now second.now buf.old
-        (before bytes phys place nums names dirs pool) }
+        (before bytes.old phys.old place nums.old names.old dirs.old pool) }
 {
     let no = calls_gate::refusal(
         bytes, phys, geometry, place, nums, names, dirs, pool, call, first, second,

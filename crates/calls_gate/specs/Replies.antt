@@ -39,4 +39,4 @@ replied r bytes phys nums names dirs buf =
 -- The same at a function's exit.
 abbrev pub replies : Reply → Run → Run → Run → Run → Run → Run → Came
 replies r bytes phys nums names dirs buf =
-    came (number_of r.answer) r.told (after bytes phys r.place nums names dirs r.pool) buf.exit.now
+    came (number_of r.answer) r.told (after bytes phys r.place nums names dirs r.pool) buf

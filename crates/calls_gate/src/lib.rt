@@ -264,7 +264,7 @@ pub fn refusal(
     first: &[u8],
     second: &[u8],
 ) -> u8
-    ensures { result ≡ refusal_of geometry call first.now second.now (before bytes phys place nums names dirs pool) }
+    ensures { result ≡ refusal_of geometry call first.now second.now (before bytes.now phys.now place nums.now names.now dirs.now pool) }
 {
     let takes = takes_of(call);
     if takes.mounts {

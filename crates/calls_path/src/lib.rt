@@ -61,9 +61,9 @@ pub fn on_path(
     requires passed { refusal_of geometry call first.now second.now
         (lent (dev bytes.old phys.old place) (bufs pool nums.old names.old dirs.old)) ≡ 0 }
     requires path { (takes_of call).first ≡ true }
-    ensures { came result.out result.told (after bytes phys result.place nums names dirs result.pool) buf.new
+    ensures { came result.out result.told (after bytes.new phys.new result.place nums.new names.new dirs.new result.pool) buf.new
         ≡ inner_m plan.now geometry call first.now second.now buf.old
-        (before bytes phys place nums names dirs pool) }
+        (before bytes.old phys.old place nums.old names.old dirs.old pool) }
 {
     match call {
         Call::OpenWrite { how } => {

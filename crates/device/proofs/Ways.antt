@@ -20,12 +20,9 @@ use Rattle.device.specs.Device.{dev, Shape, Slotted, turn, onward, noted, share,
 
 -- a part that was lent to a copier of src as long as it, `&mut d[a..a + src.len()]`, is back
 pub copied_back : (a : ℕ) (d src : List ℕ) {ys : List ℕ} → a + length src ≤ length d
-    → ys ≡ take (length src) src ++ drop (length src) (take (a + length src - a) (drop a d))
+    → ys ≡ src
     → take a d ++ (ys ++ drop (a + length src - a) (drop a d)) ≡ laid d a src
-copied_back a d src {ys} h e =
-    let n : length (take (a + length src - a) (drop a d)) ≤ length src = omega (arith, length_mid a (length src) d h) in
-    let f : ys ≡ src = e ∙ rw (take-length, drop_of_length-le (take (a + length src - a) (drop a d)) n, append-nil) in
-    rw f (mid_back a (length src) d src refl)
+copied_back a d src h e = rw e (mid_back a (length src) d src refl)
 
 -- places zeroed in a slot are back
 pub zeroed_back : (base phys to : ℕ) (d : List ℕ) {ys : List ℕ} → phys < to → base + to ≤ length d
@@ -101,14 +98,14 @@ module _ (plan : List ℕ) (g : Geometry) (slot pos : ℕ) (dst b h : List ℕ) 
 
   -- the part that was lent to the copier is laid over the front
   pub read_done : {dst' : List ℕ} {n m : ℕ} → (byte ≡ 1 → ⊥) → m ≡ min (length dst) (get_or h slot 0 - pos) → n ≡ share byte m → slot * g.size + pos + n ≤ length b
-      → (let part : List ℕ = take (slot * g.size + pos + n - (slot * g.size + pos)) (drop (slot * g.size + pos) b) in dst' ≡ take (length part) part ++ drop (length part) dst)
+      → (let m : ℕ = slot * g.size + pos + n - (slot * g.size + pos) in dst' ≡ take m (drop (slot * g.size + pos) b) ++ drop m dst)
       → r ≡ onward plan 0 p → read dst' (record { count = n; place = r }) ≡ read_m plan g slot pos dst (dev b h p)
   unfolding given
   read_done {n = n} ne e f l d s =
       let from = slot * g.size + pos in
       let k : from + n - from ≡ n = omega arith in
       let w : length (take n (drop from b)) ≡ n = simp (length-take, length-drop) (omega arith) in
-      out {ys = take n (drop from b)} false (rw (← t, ne_eqb byte 1 ne, ← e, ← f)) (d ∙ rw (k, take-length) (sym (laid_front dst (take n (drop from b))))) (sym w) (ne_eqb byte 1 ne) s
+      out {ys = take n (drop from b)} false (rw (← t, ne_eqb byte 1 ne, ← e, ← f)) (d ∙ rw k (ap (λ (x : ℕ). take n (drop from b) ++ drop x dst) (sym w) ∙ sym (laid_front dst (take n (drop from b))))) (sym w) (ne_eqb byte 1 ne) s
 
 -- ---- a write
 

@@ -18,10 +18,10 @@ dev b h p = record { bytes = b; phys = h; place = p }
 
 -- the device that a function was lent, and as it is left
 abbrev pub dev_before : Run → Run → Place → Dev
-dev_before bytes phys p = dev bytes.entry.now phys.entry.now p
+dev_before bytes phys p = dev bytes phys p
 
 abbrev pub dev_after : Run → Run → Place → Dev
-dev_after bytes phys p = dev bytes.exit.now phys.exit.now p
+dev_after bytes phys p = dev bytes phys p
 
 -- "A lent byte slice cut into equal slots of a given size, 512 to 1,048,576 bytes each, a multiple of 512; a lent list of physical lengths, one a slot, at most the slot size"
 pub record Shape (g : Geometry) (bytes phys : List ℕ) : Type 0 where

@@ -73,7 +73,7 @@ pub fn header_read(
     requires shape { Shape geometry bytes.now phys.now }
     requires slot_in_bounds { slot < length phys.now }
     ensures { read into.new result
-        ≡ header_read_m plan.now geometry slot into.old (dev_before bytes phys place) }
+        ≡ header_read_m plan.now geometry slot into.old (dev_before bytes.now phys.now place) }
 {
     read_at(bytes, phys, geometry, plan, place, slot, 0, into)
 }
@@ -90,8 +90,8 @@ pub fn header_write(
 ) -> Place
     requires shape { Shape geometry bytes.old phys.old }
     requires slot_in_bounds { slot < length phys.old }
-    ensures same { dev_after bytes phys result
-        ≡ header_write_m plan.now geometry slot block (dev_before bytes phys place) }
+    ensures same { dev_after bytes.new phys.new result
+        ≡ header_write_m plan.now geometry slot block (dev_before bytes.old phys.old place) }
     ensures kept { Shape geometry bytes.new phys.new }
 {
     write_at(bytes, phys, geometry, plan, place, slot, 0, &block)
@@ -111,7 +111,7 @@ pub fn data_read(
     requires shape { Shape geometry bytes.now phys.now }
     requires slot_in_bounds { slot < length phys.now }
     ensures { read dst.new result
-        ≡ data_read_m plan.now geometry slot at dst.old (dev_before bytes phys place) }
+        ≡ data_read_m plan.now geometry slot at dst.old (dev_before bytes.now phys.now place) }
 {
     let pos = file_pos(geometry, at);
     read_at(bytes, phys, geometry, plan, place, slot, pos, dst)
@@ -130,8 +130,8 @@ pub fn data_write(
 ) -> Place
     requires shape { Shape geometry bytes.old phys.old }
     requires slot_in_bounds { slot < length phys.old }
-    ensures same { dev_after bytes phys result
-        ≡ data_write_m plan.now geometry slot at src.now (dev_before bytes phys place) }
+    ensures same { dev_after bytes.new phys.new result
+        ≡ data_write_m plan.now geometry slot at src.now (dev_before bytes.old phys.old place) }
     ensures kept { Shape geometry bytes.new phys.new }
 {
     let pos = file_pos(geometry, at);
@@ -150,8 +150,8 @@ pub fn data_truncate(
 ) -> Place
     requires shape { Shape geometry bytes.old phys.old }
     requires slot_in_bounds { slot < length phys.old }
-    ensures same { dev_after bytes phys result
-        ≡ data_truncate_m plan.now geometry slot len (dev_before bytes phys place) }
+    ensures same { dev_after bytes.new phys.new result
+        ≡ data_truncate_m plan.now geometry slot len (dev_before bytes.old phys.old place) }
     ensures kept { Shape geometry bytes.new phys.new }
 {
     let done = flush(plan, place);
@@ -262,7 +262,7 @@ fn read_at(
     requires shape { Shape geometry bytes.now phys.now }
     requires slot_in_bounds { slot < length phys.now }
     ensures { read dst.new result
-        ≡ read_m plan.now geometry slot pos dst.old (dev_before bytes phys place) }
+        ≡ read_m plan.now geometry slot pos dst.old (dev_before bytes.now phys.now place) }
 {
     let byte = turn_of(plan, place);
     if byte == 1 {
@@ -302,8 +302,8 @@ fn write_at(
 ) -> Place
     requires shape { Shape geometry bytes.old phys.old }
     requires slot_in_bounds { slot < length phys.old }
-    ensures same { dev_after bytes phys result
-        ≡ write_m plan.now geometry slot pos src.now (dev_before bytes phys place) }
+    ensures same { dev_after bytes.new phys.new result
+        ≡ write_m plan.now geometry slot pos src.now (dev_before bytes.old phys.old place) }
     ensures kept { Shape geometry bytes.new phys.new }
 {
     let byte = turn_of(plan, place);

@@ -26,8 +26,8 @@ pub fn header_write(
 )
     requires shape { Shape geometry bytes.old phys.old }
     requires slot_in_bounds { slot < length phys.old }
-    ensures same { dev_after bytes phys at.new
-        ≡ header_write_m plan.now geometry slot block (dev_before bytes phys at.old) }
+    ensures same { dev_after bytes.new phys.new at.new
+        ≡ header_write_m plan.now geometry slot block (dev_before bytes.old phys.old at.old) }
     ensures kept { Shape geometry bytes.new phys.new }
 {
     *at = device::header_write(bytes, phys, geometry, plan, *at, slot, block);
@@ -54,8 +54,8 @@ fn put_block(
 ) -> Place
     requires shape { Shape geometry bytes.old phys.old }
     requires slot_in_bounds { slot < length phys.old }
-    ensures same { dev_after bytes phys result
-        ≡ put_m plan.now geometry slot block (dev_before bytes phys place) }
+    ensures same { dev_after bytes.new phys.new result
+        ≡ put_m plan.now geometry slot block (dev_before bytes.old phys.old place) }
     ensures kept { Shape geometry bytes.new phys.new }
 {
     let mut at = place;
@@ -80,8 +80,8 @@ pub fn put_header(
 ) -> Place
     requires shape { Shape geometry bytes.old phys.old × (slot < length phys.old) }
     requires path_len { (length path.now ≡ header.path_len) × (header.path_len ≤ max_path) }
-    ensures same { dev_after bytes phys result
-        ≡ put_m plan.now geometry slot (encoded header path.now) (dev_before bytes phys place) }
+    ensures same { dev_after bytes.new phys.new result
+        ≡ put_m plan.now geometry slot (encoded header path.now) (dev_before bytes.old phys.old place) }
     ensures kept { Shape geometry bytes.new phys.new }
 {
     let block = header.encode(path);

@@ -34,8 +34,8 @@ pub struct Meta {
 // Makes the path a directory, and its ancestors. The spelling may be of any length. The slot rows are lent only to be part of the pool.
 pub fn create_dir_all(nums: &[u64], names: &[u8], dirs: &mut [u8], pool: Pool, path: &[u8]) -> Made
     requires { IsPool (bufs pool nums.now names.now dirs.old) }
-    ensures { outcome result.out tt (bufs_after nums names dirs result.pool)
-        ≡ flat_b (create_dir_all_m path.now (view (bufs_before nums names dirs pool))) }
+    ensures { outcome result.out tt (bufs_after nums.now names.now dirs.new result.pool)
+        ≡ flat_b (create_dir_all_m path.now (view (bufs_before nums.now names.now dirs.old pool))) }
 {
     if MAX_PATH < path::normal_len(path) {
         return Made { out: 4, pool: pool };
@@ -54,7 +54,7 @@ pub fn create_dir_all(nums: &[u64], names: &[u8], dirs: &mut [u8], pool: Pool, p
 // Whether the path is a file's or a directory's.
 pub fn exists(nums: &[u64], names: &[u8], dirs: &[u8], pool: Pool, path: &[u8]) -> bool
     requires { IsPool (bufs pool nums.now names.now dirs.now) }
-    ensures { result ≡ exists_m path.now (view (bufs_before nums names dirs pool)) }
+    ensures { result ≡ exists_m path.now (view (bufs_before nums.now names.now dirs.now pool)) }
 {
     let cap = pool.chosen.rows;
     let n = pool.held;
@@ -69,7 +69,7 @@ pub fn exists(nums: &[u64], names: &[u8], dirs: &[u8], pool: Pool, path: &[u8]) 
 // The length of a file, or that the path is a directory's. A file comes before a directory of the same path.
 pub fn metadata(nums: &[u64], names: &[u8], dirs: &[u8], pool: Pool, path: &[u8]) -> Meta
     requires { IsPool (bufs pool nums.now names.now dirs.now) }
-    ensures { result ≡ metadata_m path.now (view (bufs_before nums names dirs pool)) }
+    ensures { result ≡ metadata_m path.now (view (bufs_before nums.now names.now dirs.now pool)) }
 {
     let cap = pool.chosen.rows;
     let n = pool.held;
@@ -127,8 +127,8 @@ fn sync_one(
 ) -> Ended
     requires ready { Ready geometry (lent (dev bytes.old phys.old place) (bufs pool nums.old names.now dirs.now)) }
     requires i_lt_held { i < pool.held }
-    ensures { outcome result.out tt (after bytes phys result.place nums names dirs pool)
-        ≡ flat_o (sync_one_m plan.now geometry path.now i (view_w (before bytes phys place nums names dirs pool))) }
+    ensures { outcome result.out tt (after bytes.new phys.new result.place nums.new names.now dirs.now pool)
+        ≡ flat_o (sync_one_m plan.now geometry path.now i (view_w (before bytes.old phys.old place nums.old names.now dirs.now pool))) }
 {
     let cap = pool.chosen.rows;
     let n = pool.held;
@@ -162,8 +162,8 @@ pub fn sync_dir(
     path: &[u8],
 ) -> Ended
     requires { Ready geometry (lent (dev bytes.old phys.old place) (bufs pool nums.old names.now dirs.now)) }
-    ensures { outcome result.out tt (after bytes phys result.place nums names dirs pool)
-        ≡ flat_o (sync_dir_m plan.now geometry path.now (view_w (before bytes phys place nums names dirs pool))) }
+    ensures { outcome result.out tt (after bytes.new phys.new result.place nums.new names.now dirs.now pool)
+        ≡ flat_o (sync_dir_m plan.now geometry path.now (view_w (before bytes.old phys.old place nums.old names.now dirs.now pool))) }
 {
     let n = pool.held;
     let mut at = place;

@@ -60,7 +60,7 @@ pub fn file_len(
     generation: u64,
 ) -> Len
     requires { IsPool (bufs pool nums.now names.now dirs.now) }
-    ensures { result ≡ file_len_m slot generation (view (bufs_before nums names dirs pool)) }
+    ensures { result ≡ file_len_m slot generation (view (bufs_before nums.now names.now dirs.now pool)) }
 {
     let cap = pool.chosen.rows;
     let n = pool.held;
@@ -100,9 +100,9 @@ pub fn read_at(
     buf: &mut [u8],
 ) -> Filled
     requires { Ready geometry (lent (dev bytes.now phys.now place) (bufs pool nums.now names.now dirs.now)) }
-    ensures { outcome result.out (filling result.count buf.new) (after bytes phys result.place nums names dirs pool)
+    ensures { outcome result.out (filling result.count buf.new) (after bytes.now phys.now result.place nums.now names.now dirs.now pool)
         ≡ flat_o (read_at_m plan.now geometry slot generation at buf.old
-        (view_w (before bytes phys place nums names dirs pool))) }
+        (view_w (before bytes.now phys.now place nums.now names.now dirs.now pool))) }
 {
     let cap = pool.chosen.rows;
     let n = pool.held;
@@ -164,9 +164,9 @@ pub fn write_at(
     src: &[u8],
 ) -> Ended
     requires { Ready geometry (lent (dev bytes.old phys.old place) (bufs pool nums.old names.now dirs.now)) }
-    ensures { outcome result.out tt (after bytes phys result.place nums names dirs pool)
+    ensures { outcome result.out tt (after bytes.new phys.new result.place nums.new names.now dirs.now pool)
         ≡ flat_o (write_at_m plan.now geometry slot generation at src.now
-        (view_w (before bytes phys place nums names dirs pool))) }
+        (view_w (before bytes.old phys.old place nums.old names.now dirs.now pool))) }
 {
     let cap = pool.chosen.rows;
     let n = pool.held;
@@ -207,8 +207,8 @@ pub fn set_len(
     len: u64,
 ) -> Ended
     requires { Ready geometry (lent (dev bytes.old phys.old place) (bufs pool nums.old names.now dirs.now)) }
-    ensures { outcome result.out tt (after bytes phys result.place nums names dirs pool)
-        ≡ flat_o (set_len_m plan.now geometry slot generation len (view_w (before bytes phys place nums names dirs pool))) }
+    ensures { outcome result.out tt (after bytes.new phys.new result.place nums.new names.now dirs.now pool)
+        ≡ flat_o (set_len_m plan.now geometry slot generation len (view_w (before bytes.old phys.old place nums.old names.now dirs.now pool))) }
 {
     let cap = pool.chosen.rows;
     let n = pool.held;
@@ -245,8 +245,8 @@ pub fn sync(
     generation: u64,
 ) -> Ended
     requires { Ready geometry (lent (dev bytes.old phys.old place) (bufs pool nums.old names.now dirs.now)) }
-    ensures { outcome result.out tt (after bytes phys result.place nums names dirs pool)
-        ≡ flat_o (sync_m plan.now geometry slot generation (view_w (before bytes phys place nums names dirs pool))) }
+    ensures { outcome result.out tt (after bytes.new phys.new result.place nums.new names.now dirs.now pool)
+        ≡ flat_o (sync_m plan.now geometry slot generation (view_w (before bytes.old phys.old place nums.old names.now dirs.now pool))) }
 {
     let cap = pool.chosen.rows;
     let n = pool.held;

@@ -170,7 +170,7 @@ pub fn read_dir(
 ) -> Listed
     requires { IsPool (bufs pool nums.now names.now dirs.now) }
     ensures { listing result.out result.size buf.new
-        ≡ read_dir_m path.now buf.old (view (bufs_before nums names dirs pool)) }
+        ≡ read_dir_m path.now buf.old (view (bufs_before nums.now names.now dirs.now pool)) }
 {
     let cap = pool.chosen.rows;
     let n = pool.held;

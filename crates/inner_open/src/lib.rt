@@ -93,8 +93,8 @@ pub fn bind(
 ) -> Pool
     requires pool { IsPool (bufs pool nums.old names.old dirs.old) × (i < pool.held) × (length path.now ≤ max_path) }
     requires path_len_bound { length (registered (dirs_of dirs.old pool.dirs) path.now) ≤ pool.chosen.dir_rows }
-    ensures { bufs_after nums names dirs result
-        ≡ flat (binds i path.now (file generation len dirty) (view (bufs_before nums names dirs pool))) }
+    ensures { bufs_after nums.new names.new dirs.new result
+        ≡ flat (binds i path.now (file generation len dirty) (view (bufs_before nums.old names.old dirs.old pool))) }
 {
     let cap = pool.chosen.rows;
     let n = pool.held;
@@ -109,7 +109,7 @@ pub fn bind(
 // The handle of a file, for reading. The directories are lent only to be part of the pool.
 pub fn open_read(nums: &[u64], names: &[u8], dirs: &[u8], pool: Pool, path: &[u8]) -> Reader
     requires { IsPool (bufs pool nums.now names.now dirs.now) }
-    ensures { result ≡ open_read_m path.now (view (bufs_before nums names dirs pool)) }
+    ensures { result ≡ open_read_m path.now (view (bufs_before nums.now names.now dirs.now pool)) }
 {
     let cap = pool.chosen.rows;
     let n = pool.held;
@@ -144,8 +144,8 @@ fn reopen(
 ) -> Writer
     requires ready { Ready geometry (lent (dev bytes.old phys.old place) (bufs pool nums.old names.now dirs.now)) }
     requires i_lt_held { (i < pool.held) × (is_bound (at (rows_of nums.old names.now pool.held) i) ≡ true) }
-    ensures { outcome result.out (handle result.slot result.generation result.len) (after bytes phys result.place nums names dirs result.pool)
-        ≡ flat_o (reopen_m plan.now geometry i keep (view_w (before bytes phys place nums names dirs pool))) }
+    ensures { outcome result.out (handle result.slot result.generation result.len) (after bytes.new phys.new result.place nums.new names.now dirs.now result.pool)
+        ≡ flat_o (reopen_m plan.now geometry i keep (view_w (before bytes.old phys.old place nums.old names.now dirs.now pool))) }
 {
     let cap = pool.chosen.rows;
     let n = pool.held;
@@ -193,8 +193,8 @@ fn create(
     requires ready { Ready geometry (lent (dev bytes.old phys.old place) (bufs pool nums.old names.old dirs.old)) }
     requires free_nonzero { (0 < pool.free) × (pool.counter < last_counter) × (length path.now ≤ max_path) }
     requires path_len_bound { length (registered (dirs_of dirs.old pool.dirs) path.now) ≤ pool.chosen.dir_rows }
-    ensures { outcome result.out (handle result.slot result.generation result.len) (after bytes phys result.place nums names dirs result.pool)
-        ≡ flat_o (create_m plan.now geometry path.now (view_w (before bytes phys place nums names dirs pool))) }
+    ensures { outcome result.out (handle result.slot result.generation result.len) (after bytes.new phys.new result.place nums.new names.new dirs.new result.pool)
+        ≡ flat_o (create_m plan.now geometry path.now (view_w (before bytes.old phys.old place nums.old names.old dirs.old pool))) }
 {
     let generation = pool.counter;
     let popped = pool_state::pop_free(pool);
@@ -231,9 +231,9 @@ pub fn open_write(
     keep: bool,
 ) -> Writer
     requires { Ready geometry (lent (dev bytes.old phys.old place) (bufs pool nums.old names.old dirs.old)) }
-    ensures { outcome result.out (handle result.slot result.generation result.len) (after bytes phys result.place nums names dirs result.pool)
+    ensures { outcome result.out (handle result.slot result.generation result.len) (after bytes.new phys.new result.place nums.new names.new dirs.new result.pool)
         ≡ flat_o (open_write_m plan.now geometry path.now keep
-        (view_w (before bytes phys place nums names dirs pool))) }
+        (view_w (before bytes.old phys.old place nums.old names.old dirs.old pool))) }
 {
     if MAX_PATH < path.len() {
         return refused(4, place, pool);
@@ -273,8 +273,8 @@ pub fn remove_file(
     path: &[u8],
 ) -> Done
     requires { Ready geometry (lent (dev bytes.old phys.old place) (bufs pool nums.old names.old dirs.now)) }
-    ensures { outcome result.out tt (after bytes phys result.place nums names dirs result.pool)
-        ≡ flat_o (remove_m plan.now geometry path.now (view_w (before bytes phys place nums names dirs pool))) }
+    ensures { outcome result.out tt (after bytes.new phys.new result.place nums.new names.new dirs.now result.pool)
+        ≡ flat_o (remove_m plan.now geometry path.now (view_w (before bytes.old phys.old place nums.old names.old dirs.now pool))) }
 {
     let cap = pool.chosen.rows;
     let n = pool.held;

@@ -54,7 +54,7 @@ fn needed(j: usize, n: usize) -> u64
 // What a rename comes to before the device.
 fn front(nums: &[u64], names: &[u8], dirs: &[u8], pool: Pool, from: &[u8], to: &[u8]) -> Course
     requires { IsPool (bufs pool nums.now names.now dirs.now) }
-    ensures { result ≡ front_m from.now to.now (view (bufs_before nums names dirs pool)) }
+    ensures { result ≡ front_m from.now to.now (view (bufs_before nums.now names.now dirs.now pool)) }
 {
     if MAX_PATH < to.len() {
         return stop(4);
@@ -105,8 +105,8 @@ fn rebind(
         × (is_bound (at (rows_of nums.old names.now pool.held) i) ≡ true)
         × (pool.counter < last_counter)
         × (length to.now ≤ max_path) }
-    ensures { after bytes phys result.place nums names dirs result.pool
-        ≡ flat_w (rebind_m plan.now geometry i to.now (view_w (before bytes phys place nums names dirs pool))) }
+    ensures { after bytes.new phys.new result.place nums.new names.now dirs.now result.pool
+        ≡ flat_w (rebind_m plan.now geometry i to.now (view_w (before bytes.old phys.old place nums.old names.now dirs.now pool))) }
 {
     let cap = pool.chosen.rows;
     let n = pool.held;
@@ -144,8 +144,8 @@ fn vacate(
 ) -> Stepped
     requires ready { Ready geometry (lent (dev bytes.old phys.old place) (bufs pool nums.old names.old dirs.now)) }
     requires fact { j < pool.held → (In j (queue_of pool) → ⊥) × (pool.counter < last_counter) }
-    ensures { after bytes phys result.place nums names dirs result.pool
-        ≡ flat_w (vacated_m plan.now geometry j (view_w (before bytes phys place nums names dirs pool))) }
+    ensures { after bytes.new phys.new result.place nums.new names.new dirs.now result.pool
+        ≡ flat_w (vacated_m plan.now geometry j (view_w (before bytes.old phys.old place nums.old names.old dirs.now pool))) }
 {
     let n = pool.held;
     if n <= j {
@@ -181,9 +181,9 @@ fn settle(
     requires i_lt_held { (i < pool.held)
         × (length to.now ≤ max_path)
         × (length (registered (dirs_of dirs.old pool.dirs) to.now) ≤ pool.chosen.dir_rows) }
-    ensures { outcome result.out tt (after bytes phys result.place nums names dirs result.pool)
+    ensures { outcome result.out tt (after bytes.new phys.new result.place nums.new names.new dirs.new result.pool)
         ≡ flat_o (settled_m plan.now geometry i j to.now generation len
-        (view_w (before bytes phys place nums names dirs pool))) }
+        (view_w (before bytes.old phys.old place nums.old names.old dirs.old pool))) }
 {
     let freed = vacate(
         bytes, phys, geometry, plan, place, nums, names, dirs, pool, j,
@@ -224,9 +224,9 @@ pub fn rename(
     to: &[u8],
 ) -> Done
     requires { Ready geometry (lent (dev bytes.old phys.old place) (bufs pool nums.old names.old dirs.old)) }
-    ensures { outcome result.out tt (after bytes phys result.place nums names dirs result.pool)
+    ensures { outcome result.out tt (after bytes.new phys.new result.place nums.new names.new dirs.new result.pool)
         ≡ flat_o (rename_m plan.now geometry from.now to.now
-        (view_w (before bytes phys place nums names dirs pool))) }
+        (view_w (before bytes.old phys.old place nums.old names.old dirs.old pool))) }
 {
     let f = front(nums, names, dirs, pool, from, to);
     let no = f.out;

@@ -44,8 +44,8 @@ pub fn ask(
     first: &[u8],
     second: &[u8],
 ) -> Reply
-    ensures { came (number_of result.answer) result.told (after bytes phys result.place nums names dirs result.pool) []
-        ≡ on_card call first.now second.now (before bytes phys place nums names dirs pool) }
+    ensures { came (number_of result.answer) result.told (after bytes.new phys.new result.place nums.new names.new dirs.new result.pool) []
+        ≡ on_card call first.now second.now (before bytes.old phys.old place nums.old names.old dirs.old pool) }
 {
     let mut none = [0u8; 0];
     calls::make(
@@ -79,8 +79,8 @@ fn end(
     second: &[u8],
     out: &mut [u8],
 ) -> AfterLine
-    ensures { printed (shown out.new result.len) (after bytes phys result.place nums names dirs result.pool)
-        ≡ prints (number_t call first.now second.now (before bytes phys place nums names dirs pool))
+    ensures { printed (shown out.new result.len) (after bytes.new phys.new result.place nums.new names.new dirs.new result.pool)
+        ≡ prints (number_t call first.now second.now (before bytes.old phys.old place nums.old names.old dirs.old pool))
         out.old }
 {
     let done = ask(
@@ -108,8 +108,8 @@ fn create(
     path: &[u8],
     out: &mut [u8],
 ) -> AfterLine
-    ensures { printed (shown out.new result.len) (after bytes phys result.place nums names dirs result.pool)
-        ≡ prints (create_t path.now (before bytes phys place nums names dirs pool)) out.old }
+    ensures { printed (shown out.new result.len) (after bytes.new phys.new result.place nums.new names.new dirs.new result.pool)
+        ≡ prints (create_t path.now (before bytes.old phys.old place nums.old names.old dirs.old pool)) out.old }
 {
     let call = Call::OpenWrite {
         how: calls_gate::keeping(false),
@@ -139,8 +139,8 @@ fn sync(
     path: &[u8],
     out: &mut [u8],
 ) -> AfterLine
-    ensures { printed (shown out.new result.len) (after bytes phys result.place nums names dirs result.pool)
-        ≡ prints (sync_t path.now (before bytes phys place nums names dirs pool)) out.old }
+    ensures { printed (shown out.new result.len) (after bytes.new phys.new result.place nums.new names.new dirs.new result.pool)
+        ≡ prints (sync_t path.now (before bytes.old phys.old place nums.old names.old dirs.old pool)) out.old }
 {
     let read = Call::OpenRead;
     let opened = ask(bytes, phys, place, nums, names, dirs, pool, read, path, b"");
@@ -177,8 +177,8 @@ pub fn answer_line(
     line: &[u8],
     out: &mut [u8],
 ) -> AfterLine
-    ensures { printed (shown out.new result.len) (after bytes phys result.place nums names dirs result.pool)
-        ≡ prints (line_t line.now (before bytes phys place nums names dirs pool)) out.old }
+    ensures { printed (shown out.new result.len) (after bytes.new phys.new result.place nums.new names.new dirs.new result.pool)
+        ≡ prints (line_t line.now (before bytes.old phys.old place nums.old names.old dirs.old pool)) out.old }
 {
     let command = line_words::parse(line);
     match command {

@@ -9,7 +9,7 @@ ghost use Rattle.line_answers.specs.Answers.{spaced, what_text, no_text, end_tex
 // A space and a number.
 pub fn put_number(out: &mut [u8], at: usize, n: u64) -> usize
     requires { at + 21 < 2 ^ 64 }
-    ensures { Puts (spaced n) out at result }
+    ensures { Puts (spaced n) out.old out.new at result }
 {
     let mut text = [0u8; 20];
     let k = io::decimal(n, &mut text);
@@ -19,14 +19,14 @@ pub fn put_number(out: &mut [u8], at: usize, n: u64) -> usize
 
 // The answer to a line of no form.
 pub fn say_what(out: &mut [u8]) -> usize
-    ensures { PutsAll what_text out result }
+    ensures { PutsAll what_text out.old out.new result }
 {
     output::put_bytes(out, 0, b"what\n")
 }
 
 // A refusal, with its number.
 pub fn say_no(out: &mut [u8], number: u8) -> usize
-    ensures { PutsAll (no_text number) out result }
+    ensures { PutsAll (no_text number) out.old out.new result }
 {
     let a = output::put_bytes(out, 0, b"no");
     let b = put_number(out, a, number as u64);
@@ -35,7 +35,7 @@ pub fn say_no(out: &mut [u8], number: u8) -> usize
 
 // The answer to `sync`, `rm` and `mv`, by the number of the call.
 pub fn say_end(out: &mut [u8], number: u8) -> usize
-    ensures { PutsAll (end_text number) out result }
+    ensures { PutsAll (end_text number) out.old out.new result }
 {
     if number != 0 {
         return say_no(out, number);
@@ -45,7 +45,7 @@ pub fn say_end(out: &mut [u8], number: u8) -> usize
 
 // The answer to `create`, by the number of the call, the handle and the file's length.
 pub fn say_open(out: &mut [u8], number: u8, slot: usize, generation: u64, len: u64) -> usize
-    ensures { PutsAll (open_text number slot generation len) out result }
+    ensures { PutsAll (open_text number slot generation len) out.old out.new result }
 {
     if number != 0 {
         return say_no(out, number);

@@ -21,7 +21,7 @@ use pool_state::Pool;
 // A space, a path, and the line's end.
 fn put_path(out: &mut [u8], at: usize, path: &[u8]) -> usize
     requires { at + length path.now + 2 < 2 ^ 64 }
-    ensures { Puts (path_end path.now) out at result }
+    ensures { Puts (path_end path.now) out.old out.new at result }
 {
     let a = output::put_byte(out, at, b' ');
     let b = output::put_bytes(out, a, path);
@@ -48,7 +48,7 @@ fn put_numbers(
     at: usize,
 ) -> usize
     requires { at + 85 < 2 ^ 64 }
-    ensures { Puts (file_numbers slot generation len dirty) out at result }
+    ensures { Puts (file_numbers slot generation len dirty) out.old out.new at result }
 {
     let a = output::put_byte(out, at, b'f');
     let b = line_answers::put_number(out, a, slot as u64);
@@ -68,7 +68,7 @@ fn put_file(
     at: usize,
 ) -> usize
     requires { Flat cap n nums.now names.now × (i < n) × (at + 600 < 2 ^ 64) }
-    ensures { Puts (file_line (rows_of nums.now names.now n) i) out at result }
+    ensures { Puts (file_line (rows_of nums.now names.now n) i) out.old out.new at result }
 {
     let start = i * MAX_PATH;
     let end = start + slot_rows::path_len(nums, names, cap, n, i);
@@ -90,7 +90,7 @@ fn put_files(
     at: usize,
 ) -> usize
     requires { Flat cap n nums.now names.now × SlotsBelow n spans.now × (at + length spans.now * 600 < 2 ^ 64) }
-    ensures { Puts (cat (λ x. file_line (rows_of nums.now names.now n) (slot_of x)) spans.now) out at result }
+    ensures { Puts (cat (λ x. file_line (rows_of nums.now names.now n) (slot_of x)) spans.now) out.old out.new at result }
 {
     let mut a = at;
     let mut k = 0;
@@ -116,7 +116,7 @@ fn put_sorted_files(
         × (spans.old ≡ file_spans (rows_of nums.now names.now n))
         × (n ≤ 64)
         × (at + 38400 < 2 ^ 64) }
-    ensures { Puts (files_text (rows_of nums.now names.now n)) out at result }
+    ensures { Puts (files_text (rows_of nums.now names.now n)) out.old out.new at result }
 {
     row_order::sort(names, spans);
     put_files(nums, names, cap, n, spans, out, at)
@@ -132,7 +132,7 @@ fn put_all_files(
     at: usize,
 ) -> usize
     requires { Flat cap n nums.now names.now × (n ≤ 64) × (at + 38400 < 2 ^ 64) }
-    ensures { Puts (files_text (rows_of nums.now names.now n)) out at result }
+    ensures { Puts (files_text (rows_of nums.now names.now n)) out.old out.new at result }
 {
     let mut spans = [0u32; 64];
     let count = row_order::all_files(nums, names, cap, n, &mut spans);
@@ -142,7 +142,7 @@ fn put_all_files(
 // The line of the directory whose spelling is the part x.
 fn put_dir(dirs: &[u8], x: u32, out: &mut [u8], at: usize) -> usize
     requires { SpanInside dirs.now x × (at + 600 < 2 ^ 64) }
-    ensures { Puts (dir_line (spelled dirs.now x)) out at result }
+    ensures { Puts (dir_line (spelled dirs.now x)) out.old out.new at result }
 {
     let start = (x / 512) as usize;
     let len = (x % 512) as usize;
@@ -153,7 +153,7 @@ fn put_dir(dirs: &[u8], x: u32, out: &mut [u8], at: usize) -> usize
 // The lines of directories, in the order of their spans.
 fn put_dirs(dirs: &[u8], spans: &[u32], out: &mut [u8], at: usize) -> usize
     requires { AllInside dirs.now spans.now × (at + length spans.now * 600 < 2 ^ 64) }
-    ensures { Puts (cat (λ x. dir_line (spelled dirs.now x)) spans.now) out at result }
+    ensures { Puts (cat (λ x. dir_line (spelled dirs.now x)) spans.now) out.old out.new at result }
 {
     let mut a = at;
     let mut k = 0;
@@ -167,7 +167,7 @@ fn put_dirs(dirs: &[u8], spans: &[u32], out: &mut [u8], at: usize) -> usize
 // The lines of all directories, whose spans are lent by row.
 fn put_sorted_dirs(dirs: &[u8], m: usize, spans: &mut [u32], out: &mut [u8], at: usize) -> usize
     requires { (m * dir_width ≤ length dirs.now) × (spans.old ≡ dir_spans (dirs_of dirs.now m)) × (m ≤ 256) × (at + 153600 < 2 ^ 64) }
-    ensures { Puts (dirs_text (dirs_of dirs.now m)) out at result }
+    ensures { Puts (dirs_text (dirs_of dirs.now m)) out.old out.new at result }
 {
     row_order::sort(dirs, spans);
     put_dirs(dirs, spans, out, at)
@@ -176,7 +176,7 @@ fn put_sorted_dirs(dirs: &[u8], m: usize, spans: &mut [u32], out: &mut [u8], at:
 // The lines of all directories.
 fn put_all_dirs(dirs: &[u8], m: usize, out: &mut [u8], at: usize) -> usize
     requires { (m * dir_width ≤ length dirs.now) × (m ≤ 256) × (at + 153600 < 2 ^ 64) }
-    ensures { Puts (dirs_text (dirs_of dirs.now m)) out at result }
+    ensures { Puts (dirs_text (dirs_of dirs.now m)) out.old out.new at result }
 {
     let mut spans = [0u32; 256];
     row_order::all_dirs(dirs, m, &mut spans);
@@ -186,7 +186,7 @@ fn put_all_dirs(dirs: &[u8], m: usize, out: &mut [u8], at: usize) -> usize
 // A pool, line by line.
 fn put_pool(nums: &[u64], names: &[u8], dirs: &[u8], pool: Pool, out: &mut [u8]) -> usize
     requires { IsPool (bufs pool nums.now names.now dirs.now) }
-    ensures { PutsAll (dump_text (view (bufs pool nums.now names.now dirs.now))) out result }
+    ensures { PutsAll (dump_text (view (bufs pool nums.now names.now dirs.now))) out.old out.new result }
 {
     let cap = pool.chosen.rows;
     let n = pool.held;
@@ -201,7 +201,7 @@ fn put_pool(nums: &[u64], names: &[u8], dirs: &[u8], pool: Pool, out: &mut [u8])
 
 // The answer to `dump`.
 pub fn say_dump(nums: &[u64], names: &[u8], dirs: &[u8], pool: Pool, out: &mut [u8]) -> usize
-    ensures { PutsAll (dump_answer (bufs pool nums.now names.now dirs.now)) out result }
+    ensures { PutsAll (dump_answer (bufs pool nums.now names.now dirs.now)) out.old out.new result }
 {
     if !pool_test::pool_ok(nums, names, dirs, pool) {
         return line_answers::say_no(out, 1);

@@ -1,8 +1,6 @@
--- A run of numbers that a function is lent, as a contract may take it: at entry and at exit, as one value.
+-- A run of numbers that a function is lent, as a contract may take it: the list that it is at entry, or at exit.
 use Rattle.std.specs.Prelude.{ℕ, List}
-use Rattle.std.specs.Borrow.{Bor}
-use denote.Triple.Both.{Both}
 
--- A lent run, at a function's entry and at its exit.
+-- A lent run, as it is at one of the two.
 abbrev pub Run : Type 0
-Run = Both (Bor (List ℕ)) (Bor (List ℕ))
+Run = List ℕ

@@ -41,9 +41,9 @@ pub fn drain(
     requires count_bound { (count ≤ 64)
         × Due (take count losers)
         (view_w (lent (dev bytes.old phys.old place) (bufs pool nums.old names.old dirs.now))) }
-    ensures { after bytes phys result.place nums names dirs result.pool
+    ensures { after bytes.new phys.new result.place nums.new names.new dirs.now result.pool
         ≡ flat_w
-        (drain plan.now geometry (take count losers) (view_w (before bytes phys place nums names dirs pool))) }
+        (drain plan.now geometry (take count losers) (view_w (before bytes.old phys.old place nums.old names.old dirs.now pool))) }
 {
     let mut at = place;
     let mut q = pool;
@@ -82,8 +82,8 @@ pub fn adopt(
     k: usize,
 ) -> Adopted
     requires { Ready geometry (lent (dev bytes.old phys.old place) (bufs pool nums.old names.old dirs.old)) }
-    ensures { only result.out (after bytes phys result.place nums names dirs result.pool)
-        ≡ flat_o (adopt_m plan.now geometry k (view_w (before bytes phys place nums names dirs pool))) }
+    ensures { only result.out (after bytes.new phys.new result.place nums.new names.new dirs.new result.pool)
+        ≡ flat_o (adopt_m plan.now geometry k (view_w (before bytes.old phys.old place nums.old names.old dirs.old pool))) }
 {
     let cap = pool.chosen.rows;
     let n = pool.held;
@@ -188,7 +188,7 @@ pub fn mount_rows(
     requires nums_len { (length nums.old ≡ chosen.rows * row_width)
         × (length names.old ≡ chosen.rows * max_path)
         × (length dirs.old ≡ chosen.dir_rows * dir_width) }
-    ensures { only result.out (after bytes phys result.place nums names dirs result.pool)
+    ensures { only result.out (after bytes.new phys.new result.place nums.new names.new dirs.new result.pool)
         ≡ mounted (mount_m plan.now geometry chosen k (dev bytes.old phys.old place)) }
 {
     slot_rows::clear_rows(nums, names);

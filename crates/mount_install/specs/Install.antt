@@ -33,18 +33,18 @@ three l n b = record { nums = l; names = n; dirs = b }
 
 -- The row buffers that a function was lent, as they were, and as they are left.
 abbrev pub three_before : Run → Run → Run → Three
-three_before nums names dirs = three nums.entry.now names.entry.now dirs.entry.now
+three_before nums names dirs = three nums names dirs
 
 abbrev pub three_after : Run → Run → Run → Three
-three_after nums names dirs = three nums.exit.now names.exit.now dirs.exit.now
+three_after nums names dirs = three nums names dirs
 
 -- The m slot rows that a function was lent, as they were.
 abbrev pub rows_before : Run → Run → ℕ → List Row
-rows_before nums names m = rows_of nums.entry.now names.entry.now m
+rows_before nums names m = rows_of nums names m
 
 -- The d directories that it was lent, and with the ancestors of the rows from n to m - 1.
 abbrev pub claimed_before : Run → Run → Run → ℕ → ℕ → ℕ → List (List ℕ)
-claimed_before nums names dirs n m d = claimed (drop n (rows_before nums names m)) (dirs_of dirs.entry.now d)
+claimed_before nums names dirs n m d = claimed (drop n (rows_before nums names m)) (dirs_of dirs d)
 
 -- Taken: the d directories ds lie in their buffer, and the slot rows are as staged.
 pub record Taken (cap : ℕ) (ds : List (List ℕ)) (d : ℕ) (a b : Three) : Type 0 where

@@ -55,9 +55,9 @@ fn register_row(
     i: usize,
 ) -> Registered
     requires { Flat cap m nums.now names.now × FlatDirs dir_cap d dirs.old × (i < m) }
-    ensures told { result ≡ answered dir_cap d (registered (dirs_of dirs.old d) (path_of (at (rows_before nums names m) i))) }
+    ensures told { result ≡ answered dir_cap d (registered (dirs_of dirs.old d) (path_of (at (rows_before nums.now names.now m) i))) }
     ensures dirs { dirs.new
-        ≡ kept dir_cap (registered (dirs_of dirs.old d) (path_of (at (rows_before nums names m) i))) dirs.old }
+        ≡ kept dir_cap (registered (dirs_of dirs.old d) (path_of (at (rows_before nums.now names.now m) i))) dirs.old }
 {
     let k = slot_rows::path_len(nums, names, cap, m, i);
     let from = i * MAX_PATH;
@@ -81,8 +81,8 @@ pub fn register_claims(
     d: usize,
 ) -> Registered
     requires { Flat cap m nums.now names.now × FlatDirs dir_cap d dirs.old × (n ≤ m) }
-    ensures told { result ≡ answered dir_cap d (claimed_before nums names dirs n m d) }
-    ensures dirs { dirs.new ≡ kept dir_cap (claimed_before nums names dirs n m d) dirs.old }
+    ensures told { result ≡ answered dir_cap d (claimed_before nums.now names.now dirs.old n m d) }
+    ensures dirs { dirs.new ≡ kept dir_cap (claimed_before nums.now names.now dirs.old n m d) dirs.old }
 {
     let mut e = d;
     let mut i = n;
@@ -115,12 +115,12 @@ pub fn accept(
         × (pool.held ≤ m)
         × (losers ≤ 64) }
     ensures out { result.out
-        ≡ refusal pool.chosen.dir_rows (claimed_before nums names dirs pool.held m pool.dirs) counter losers }
+        ≡ refusal pool.chosen.dir_rows (claimed_before nums.old names.old dirs.old pool.held m pool.dirs) counter losers }
     ensures taken { result.out ≡ 0
-        → Taken pool.chosen.dir_rows (claimed_before nums names dirs pool.held m pool.dirs) result.dirs
-        (three_before nums names dirs) (three_after nums names dirs) }
+        → Taken pool.chosen.dir_rows (claimed_before nums.old names.old dirs.old pool.held m pool.dirs) result.dirs
+        (three_before nums.old names.old dirs.old) (three_after nums.new names.new dirs.new) }
     ensures back { (result.out ≡ 0 → ⊥)
-        → three_after nums names dirs ≡ unstaged pool.chosen.rows pool.held m (three_before nums names dirs) }
+        → three_after nums.new names.new dirs.new ≡ unstaged pool.chosen.rows pool.held m (three_before nums.old names.old dirs.old) }
 {
     let cap = pool.chosen.rows;
     let n = pool.held;
@@ -179,7 +179,7 @@ pub fn unbind_losers(
     count: usize,
 )
     requires { Flat cap m nums.old names.old × (count ≤ 64) × ((x : ℕ) → In x (take count losers) → x < m) }
-    ensures rows { rows_of nums.new names.new m ≡ vacated (take count losers) (rows_before nums names m) }
+    ensures rows { rows_of nums.new names.new m ≡ vacated (take count losers) (rows_before nums.old names.old m) }
     ensures flat { Flat cap m nums.new names.new }
 {
     let mut i = 0;
@@ -205,8 +205,8 @@ pub fn install(
     requires count_bound { (count ≤ 64) × ((x : ℕ) → In x (take count losers) → x < m) }
     ensures pool { result
         ≡ holding m dirs counter
-        (pushed_all (spares pool.held (drop pool.held (rows_before nums names m))) pool) }
-    ensures rows { rows_of nums.new names.new m ≡ vacated (take count losers) (rows_before nums names m) }
+        (pushed_all (spares pool.held (drop pool.held (rows_before nums.old names.old m))) pool) }
+    ensures rows { rows_of nums.new names.new m ≡ vacated (take count losers) (rows_before nums.old names.old m) }
     ensures flat { Flat pool.chosen.rows m nums.new names.new }
 {
     let cap = pool.chosen.rows;

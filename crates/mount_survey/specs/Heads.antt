@@ -1,7 +1,5 @@
 -- What a slot's header says to a mount, and the reading of all headers before anything else: 01, "Mount, adopt".
 use Rattle.std.specs.Prelude.{ℕ, zero, suc, Bool, true, false, cond, ◌&&◌, List, [], ◌∷◌, eqb, ltb, length}
-use Rattle.std.specs.Borrow.{Bor}
-use denote.Triple.Both.{Both}
 use Rattle.header.specs.declared.Decoded.{Decoded}
 use Rattle.header.specs.declared.Decoded.TheVariants.{Absent, Found}
 use Rattle.header.specs.Block.{path_of, decoded}
@@ -10,8 +8,8 @@ use Rattle.device.specs.declared.Geometry.{Geometry}
 use Rattle.device.specs.Device.{Dev, dev, turn, onward, given}
 
 -- The device that a function was lent to read, as it was.
-abbrev pub dev_before : Both (Bor (List ℕ)) (Bor (List ℕ)) → Both (Bor (List ℕ)) (Bor (List ℕ)) → Place → Dev
-dev_before bytes phys p = dev bytes.entry.now phys.entry.now p
+abbrev pub dev_before : List ℕ → List ℕ → Place → Dev
+dev_before bytes phys p = dev bytes phys p
 
 -- A slot's header: none that is valid; a valid one that claims nothing, with its generation; or a claim: path, generation, file length.
 pub data Head : Type 0 where

@@ -47,13 +47,13 @@ pub fn stage(
 ) -> Staged
     requires shape { Shape geometry bytes.now phys.now × Flat cap n nums.old names.old }
     requires k_bound { (n + k ≤ cap) × (n + k ≤ length phys.now) }
-    ensures place { result.place ≡ (reads_m plan.now geometry n k (dev_before bytes phys place)).place }
-    ensures failed { result.failed ≡ (reads_m plan.now geometry n k (dev_before bytes phys place)).failed }
-    ensures asked { result.asked ≡ asked_of (reads_m plan.now geometry n k (dev_before bytes phys place)).heads }
+    ensures place { result.place ≡ (reads_m plan.now geometry n k (dev_before bytes.now phys.now place)).place }
+    ensures failed { result.failed ≡ (reads_m plan.now geometry n k (dev_before bytes.now phys.now place)).failed }
+    ensures asked { result.asked ≡ asked_of (reads_m plan.now geometry n k (dev_before bytes.now phys.now place)).heads }
     ensures rows { result.failed ≡ false
         → rows_of nums.new names.new (n + k)
         ≡ rows_of nums.old names.old n
-        ++ map row_of (reads_m plan.now geometry n k (dev_before bytes phys place)).heads }
+        ++ map row_of (reads_m plan.now geometry n k (dev_before bytes.now phys.now place)).heads }
     ensures flat { result.failed ≡ false → Flat cap (n + k) nums.new names.new }
     ensures kept { result.failed ≡ true → (nums.new ≡ nums.old) × (names.new ≡ names.old) }
 {
@@ -94,15 +94,15 @@ fn stage_slot(
 ) -> Staged
     requires shape { Shape geometry bytes.now phys.now × Flat cap i nums.old names.old }
     requires i_lt_cap { (i < cap) × (i < length phys.now) }
-    ensures place { result.place ≡ (looked plan.now (dev_before bytes phys place)).place }
+    ensures place { result.place ≡ (looked plan.now (dev_before bytes.now phys.now place)).place }
     ensures failed { result.failed ≡ eqb (turn plan.now place) 1 }
     ensures asked { result.asked
         ≡ cond result.failed asked
-        (max asked (asks (head_of (given plan.now geometry i 0 512 (dev_before bytes phys place))))) }
+        (max asked (asks (head_of (given plan.now geometry i 0 512 (dev_before bytes.now phys.now place))))) }
     ensures rows { result.failed ≡ false
         → rows_of nums.new names.new (i + 1)
         ≡ rows_of nums.old names.old i
-        ++ row_of (head_of (given plan.now geometry i 0 512 (dev_before bytes phys place))) ∷ [] }
+        ++ row_of (head_of (given plan.now geometry i 0 512 (dev_before bytes.now phys.now place))) ∷ [] }
     ensures flat { result.failed ≡ false → Flat cap (i + 1) nums.new names.new }
     ensures kept { result.failed ≡ true → (nums.new ≡ nums.old) × (names.new ≡ names.old) }
 {

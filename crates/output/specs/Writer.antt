@@ -1,8 +1,6 @@
 -- Output that goes to a lent buffer as far as that reaches.
 use Rattle.std.specs.Prelude.{ℕ, ◌+◌, ◌≡◌, List, ◌++◌, length, take, drop}
 use Rattle.std.proofs.lemmas.List.Edits.{sets}
-use Rattle.std.specs.Borrow.{Bor}
-use denote.Triple.Both.{Both}
 use Rattle.le.specs.Le.{le}
 
 -- The buffer, and how much was put out so far.
@@ -27,14 +25,14 @@ run_of p = le 2 (length p) ++ p
 
 -- ---- what a writer promises of the buffer that it is lent
 
--- A buffer at a writer's entry and at its exit.
+-- A buffer at a writer's entry, or at its exit.
 abbrev Out : Type 0
-Out = Both (Bor (List ℕ)) (Bor (List ℕ))
+Out = List ℕ
 
 -- xs come next: `at` was put out before them, and n with them.
-abbrev pub Puts : List ℕ → Out → ℕ → ℕ → Type 0
-Puts xs out at n = shown out.exit.now n ≡ pours xs (shown out.entry.now at)
+abbrev pub Puts : List ℕ → Out → Out → ℕ → ℕ → Type 0
+Puts xs before after at n = shown after n ≡ pours xs (shown before at)
 
 -- xs are the whole output, of n bytes.
-abbrev pub PutsAll : List ℕ → Out → ℕ → Type 0
-PutsAll xs out n = shown out.exit.now n ≡ poured xs out.entry.now
+abbrev pub PutsAll : List ℕ → Out → Out → ℕ → Type 0
+PutsAll xs before after n = shown after n ≡ poured xs before

@@ -9,7 +9,7 @@ ghost use Rattle.output.specs.Writer.{Puts, run_of};
 // One byte.
 pub fn put_byte(out: &mut [u8], at: usize, x: u8) -> usize
     requires { at + 1 < 2 ^ 64 }
-    ensures { Puts (x ∷ []) out at result }
+    ensures { Puts (x ∷ []) out.old out.new at result }
 {
     if at < out.len() {
         out[at] = x;
@@ -21,7 +21,7 @@ pub fn put_byte(out: &mut [u8], at: usize, x: u8) -> usize
 // The low w bytes of x, lowest first.
 pub fn put_le(out: &mut [u8], at: usize, w: usize, x: u64) -> usize
     requires { at + w < 2 ^ 64 }
-    ensures { Puts (le w x) out at result }
+    ensures { Puts (le w x) out.old out.new at result }
 {
     let mut v = x;
     let mut a = at;
@@ -37,7 +37,7 @@ pub fn put_le(out: &mut [u8], at: usize, w: usize, x: u64) -> usize
 // A run of bytes.
 pub fn put_bytes(out: &mut [u8], at: usize, src: &[u8]) -> usize
     requires { at + length src.now < 2 ^ 64 }
-    ensures { Puts src.now out at result }
+    ensures { Puts src.now out.old out.new at result }
 {
     let mut a = at;
     let mut i = 0;
@@ -51,7 +51,7 @@ pub fn put_bytes(out: &mut [u8], at: usize, src: &[u8]) -> usize
 // A run: its length as a u16, and its bytes.
 pub fn put_run(out: &mut [u8], at: usize, src: &[u8]) -> usize
     requires { at + 2 + length src.now < 2 ^ 64 }
-    ensures { Puts (run_of src.now) out at result }
+    ensures { Puts (run_of src.now) out.old out.new at result }
 {
     let a = put_le(out, at, 2, src.len() as u64);
     put_bytes(out, a, src)

@@ -1,7 +1,5 @@
 -- The contract of `pool::call`: what is lent to it and what it is asked for, what it replies and leaves, and how the two hang together.
 use Rattle.std.specs.Prelude.{ℕ, ◌≡◌, List}
-use Rattle.std.specs.Borrow.{Bor}
-use denote.Triple.Both.{Both}
 use Rattle.device.specs.declared.Geometry.{Geometry}
 use Rattle.device.specs.declared.Place.{Place}
 use Rattle.device.specs.Device.{dev}
@@ -62,35 +60,35 @@ Entered x y = Same x y × Placed y
 -- ---- from what is lent at a function's entry, and at its exit
 
 abbrev pub Lend : Type 0 → Type 0
-Lend X = Both (Bor X) (Bor X)
+Lend X = X
 
 abbrev pub asked : Lend (List ℕ) → Lend (List ℕ) → Geometry → Lend (List ℕ) → Lend Place → Lend (List Slot) → Lend (List ℕ)
     → Lend (List ℕ) → Pool → Call → Lend (List ℕ) → Lend (List ℕ) → Lend (List ℕ) → Asked
 asked bytes phys g plan at rows names dirs q c one two buf = record {
-  bytes = bytes.entry.now;
-  phys = phys.entry.now;
+  bytes = bytes;
+  phys = phys;
   geometry = g;
-  plan = plan.entry.now;
-  at = at.entry.now;
-  rows = rows.entry.now;
-  names = names.entry.now;
-  dirs = dirs.entry.now;
+  plan = plan;
+  at = at;
+  rows = rows;
+  names = names;
+  dirs = dirs;
   pool = q;
   call = c;
-  first = one.entry.now;
-  second = two.entry.now;
-  buf = buf.entry.now;
+  first = one;
+  second = two;
+  buf = buf;
 }
 
 abbrev pub left : Reply → Lend (List ℕ) → Lend (List ℕ) → Lend Place → Lend (List Slot) → Lend (List ℕ) → Lend (List ℕ)
     → Lend (List ℕ) → Left
 left r bytes phys at rows names dirs buf = record {
   reply = r;
-  bytes = bytes.exit.now;
-  phys = phys.exit.now;
-  at = at.exit.now;
-  rows = rows.exit.now;
-  names = names.exit.now;
-  dirs = dirs.exit.now;
-  buf = buf.exit.now;
+  bytes = bytes;
+  phys = phys;
+  at = at;
+  rows = rows;
+  names = names;
+  dirs = dirs;
+  buf = buf;
 }

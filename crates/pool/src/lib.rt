@@ -155,9 +155,9 @@ pub fn call(
     second: &[u8],
     buf: &mut [u8],
 ) -> Reply
-    ensures same { Same (asked bytes phys geometry plan at rows names dirs pool call first second buf)
-        (left result bytes phys at rows names dirs buf) }
-    ensures place { Placed (left result bytes phys at rows names dirs buf) }
+    ensures same { Same (asked bytes.old phys.old geometry plan.now at.old rows.old names.old dirs.old pool call first.now second.now buf.old)
+        (left result bytes.new phys.new at.new rows.new names.new dirs.new buf.new) }
+    ensures place { Placed (left result bytes.new phys.new at.new rows.new names.new dirs.new buf.new) }
 {
     let reply = enter(
         bytes, phys, geometry, plan, *at, rows, names, dirs, pool, call, first, second, buf,

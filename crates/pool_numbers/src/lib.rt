@@ -31,9 +31,9 @@ fn through(
     buf: &mut [u8],
 ) -> Reply
     requires { whole_rows nums.old ≡ true }
-    ensures { came (number_of result.answer) result.told (after bytes phys result.place nums names dirs result.pool) buf.new
+    ensures { came (number_of result.answer) result.told (after bytes.new phys.new result.place nums.new names.new dirs.new result.pool) buf.new
         ≡ call_p plan.now geometry call first.now second.now buf.old
-        (before bytes phys place nums names dirs pool) }
+        (before bytes.old phys.old place nums.old names.old dirs.old pool) }
 {
     let n = nums.len() / ROW_WIDTH;
     let mut rows = slot_records::rows_of(nums);
@@ -74,9 +74,9 @@ pub fn on_numbers(
     second: &[u8],
     buf: &mut [u8],
 ) -> Reply
-    ensures { came (number_of result.answer) result.told (after bytes phys result.place nums names dirs result.pool) buf.new
+    ensures { came (number_of result.answer) result.told (after bytes.new phys.new result.place nums.new names.new dirs.new result.pool) buf.new
         ≡ call_p plan.now geometry call first.now second.now buf.old
-        (before bytes phys place nums names dirs pool) }
+        (before bytes.old phys.old place nums.old names.old dirs.old pool) }
 {
     if !slot_records::whole_rows(nums) {
         return calls::make(

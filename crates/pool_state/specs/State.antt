@@ -79,10 +79,10 @@ bufs q l n d = record { pool = q; nums = l; names = n; dirs = d }
 
 -- The rows that a function was lent, with the record: as they were, and as they are left.
 abbrev pub bufs_before : Run → Run → Run → Pool → Bufs
-bufs_before nums names dirs q = bufs q nums.entry.now names.entry.now dirs.entry.now
+bufs_before nums names dirs q = bufs q nums names dirs
 
 abbrev pub bufs_after : Run → Run → Run → Pool → Bufs
-bufs_after nums names dirs q = bufs q nums.exit.now names.exit.now dirs.exit.now
+bufs_after nums names dirs q = bufs q nums names dirs
 
 -- The queue in a record: the first `free` cells.
 unfoldable pub queue_of : Pool → List ℕ

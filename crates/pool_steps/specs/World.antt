@@ -46,8 +46,8 @@ pub record Ready (g : Geometry) (l : Lent) : Type 0 where
 -- All that a call was lent, as it was, and as it is left.
 abbrev pub before : Run → Run → Place → Run → Run → Run → Pool → Lent
 before bytes phys p nums names dirs q =
-    lent (dev bytes.entry.now phys.entry.now p) (bufs q nums.entry.now names.entry.now dirs.entry.now)
+    lent (dev bytes phys p) (bufs q nums names dirs)
 
 abbrev pub after : Run → Run → Place → Run → Run → Run → Pool → Lent
 after bytes phys p nums names dirs q =
-    lent (dev bytes.exit.now phys.exit.now p) (bufs q nums.exit.now names.exit.now dirs.exit.now)
+    lent (dev bytes phys p) (bufs q nums names dirs)

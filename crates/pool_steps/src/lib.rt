@@ -36,8 +36,8 @@ pub fn free_slot(
     generation: u64,
 ) -> Place
     requires { Shape geometry bytes.old phys.old × (slot < length phys.old) }
-    ensures same { dev_after bytes phys result
-        ≡ free_m plan.now geometry slot generation (dev_before bytes phys place) }
+    ensures same { dev_after bytes.new phys.new result
+        ≡ free_m plan.now geometry slot generation (dev_before bytes.old phys.old place) }
     ensures kept { Shape geometry bytes.new phys.new }
 {
     let free = Header::free(generation);
@@ -65,8 +65,8 @@ pub fn release(
 ) -> Stepped
     requires ready { Ready geometry (lent (dev bytes.old phys.old place) (bufs pool nums.old names.old dirs.now)) }
     requires slot_lt_held { (slot < pool.held) × (In slot (queue_of pool) → ⊥) × (pool.counter < last_counter) }
-    ensures { after bytes phys result.place nums names dirs result.pool
-        ≡ flat_w (release_m plan.now geometry slot (view_w (before bytes phys place nums names dirs pool))) }
+    ensures { after bytes.new phys.new result.place nums.new names.new dirs.now result.pool
+        ≡ flat_w (release_m plan.now geometry slot (view_w (before bytes.old phys.old place nums.old names.old dirs.now pool))) }
 {
     let cap = pool.chosen.rows;
     let n = pool.held;
@@ -113,8 +113,8 @@ pub fn sync_row(
 ) -> Place
     requires ready { Ready geometry (lent (dev bytes.old phys.old place) (bufs pool nums.old names.now dirs.now)) }
     requires i_lt_held { (i < pool.held) × (is_bound (at (rows_of nums.old names.now pool.held) i) ≡ true) }
-    ensures { after bytes phys result nums names dirs pool
-        ≡ flat_w (sync_row_m plan.now geometry i (view_w (before bytes phys place nums names dirs pool))) }
+    ensures { after bytes.new phys.new result nums.new names.now dirs.now pool
+        ≡ flat_w (sync_row_m plan.now geometry i (view_w (before bytes.old phys.old place nums.old names.now dirs.now pool))) }
 {
     let cap = pool.chosen.rows;
     let n = pool.held;

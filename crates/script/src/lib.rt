@@ -33,10 +33,10 @@ fn run(
     out: &mut [u8],
 ) -> Ran
     requires { (from ≤ length script.now) × (length script.now < 2 ^ 40) }
-    ensures ops { reached (shown out.new result.at) (after bytes phys result.place nums names dirs result.pool)
+    ensures ops { reached (shown out.new result.at) (after bytes.new phys.new result.place nums.new names.new dirs.new result.pool)
         ≡ spoken (run_m script.now plan.now geometry
         (operations (length script.now) script.now from)
-        (before bytes phys place nums names dirs pool)) (shown out.old 0) }
+        (before bytes.old phys.old place nums.old names.old dirs.old pool)) (shown out.old 0) }
     ensures few { result.at ≤ length script.now * 65600 }
 {
     let mut ran = Ran {
@@ -78,10 +78,10 @@ fn run_all(
     out: &mut [u8],
 ) -> Ran
     requires { (from ≤ length script.now) × (length script.now < 2 ^ 40) }
-    ensures { reached (shown out.new result.at) (after bytes phys result.place nums names dirs result.pool)
+    ensures { reached (shown out.new result.at) (after bytes.new phys.new result.place nums.new names.new dirs.new result.pool)
         ≡ closed (run_m script.now plan.now geometry
         (operations (length script.now) script.now from)
-        (before bytes phys place nums names dirs pool)) (shown out.old 0) }
+        (before bytes.old phys.old place nums.old names.old dirs.old pool)) (shown out.old 0) }
 {
     let ran = run(
         bytes, phys, geometry, plan, place, nums, names, dirs, pool, script, from, out,

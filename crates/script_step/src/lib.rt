@@ -144,9 +144,9 @@ fn ask(
     buf: &mut [u8],
 ) -> Reply
     requires { Held script.now op }
-    ensures { came (number_of result.answer) result.told (after bytes phys result.place nums names dirs result.pool) buf.new
+    ensures { came (number_of result.answer) result.told (after bytes.new phys.new result.place nums.new names.new dirs.new result.pool) buf.new
         ≡ call_p plan.now geometry (call_of op) (run_in script.now op.first)
-        (run_in script.now op.second) buf.old (before bytes phys place nums names dirs pool) }
+        (run_in script.now op.second) buf.old (before bytes.old phys.old place nums.old names.old dirs.old pool) }
 {
     let call = call_of(op);
     let first = op.first;
@@ -183,8 +183,8 @@ fn change_slot(
     op: Op,
 ) -> SlotCame
     requires { Held script.now op }
-    ensures { slot_done result.told (dev_after bytes phys result.place)
-        ≡ change_slot plan.now geometry op (run_in script.now op.first) (dev_before bytes phys place) }
+    ensures { slot_done result.told (dev_after bytes.new phys.new result.place)
+        ≡ change_slot plan.now geometry op (run_in script.now op.first) (dev_before bytes.old phys.old place) }
 {
     let code = op.code;
     let slot = op.slot;
@@ -239,9 +239,9 @@ fn on_slot(
     buf: &mut [u8],
 ) -> OnSlot
     requires { Held script.now op }
-    ensures { slot_read result.number result.count buf.new (dev_after bytes phys result.place)
+    ensures { slot_read result.number result.count buf.new (dev_after bytes.new phys.new result.place)
         ≡ on_slot plan.now geometry op (run_in script.now op.first) buf.old
-        (dev_before bytes phys place) }
+        (dev_before bytes.old phys.old place) }
 {
     let code = op.code;
     if code == 22 {
@@ -281,9 +281,9 @@ fn make(
     buf: &mut [u8],
 ) -> CallCame
     requires { Held script.now op }
-    ensures { came result.number result.told (after bytes phys result.place nums names dirs result.pool) buf.new
+    ensures { came result.number result.told (after bytes.new phys.new result.place nums.new names.new dirs.new result.pool) buf.new
         ≡ made_m script.now plan.now geometry op buf.old
-        (before bytes phys place nums names dirs pool) }
+        (before bytes.old phys.old place nums.old names.old dirs.old pool) }
 {
     let code = op.code;
     if 22 <= code {
@@ -361,9 +361,9 @@ fn answered(
     at: usize,
 ) -> Ran
     requires { Held script.now op × (op.code ≤ last_code) × (length buf.old < 65536) × (at < 2 ^ 62) }
-    ensures op { reached (shown out.new result.at) (after bytes phys result.place nums names dirs result.pool)
+    ensures op { reached (shown out.new result.at) (after bytes.new phys.new result.place nums.new names.new dirs.new result.pool)
         ≡ spoken (answered_m script.now plan.now geometry op buf.old
-        (before bytes phys place nums names dirs pool)) (shown out.old at) }
+        (before bytes.old phys.old place nums.old names.old dirs.old pool)) (shown out.old at) }
     ensures few { result.at ≤ at + 65600 }
 {
     let came = make(
@@ -419,8 +419,8 @@ pub fn step(
     at: usize,
 ) -> Ran
     requires { Held script.now op × (op.code ≤ last_code) × (op.n < 65536) × (at < 2 ^ 62) }
-    ensures op { reached (shown out.new result.at) (after bytes phys result.place nums names dirs result.pool)
-        ≡ spoken (op_m script.now plan.now geometry op (before bytes phys place nums names dirs pool))
+    ensures op { reached (shown out.new result.at) (after bytes.new phys.new result.place nums.new names.new dirs.new result.pool)
+        ≡ spoken (op_m script.now plan.now geometry op (before bytes.old phys.old place nums.old names.old dirs.old pool))
         (shown out.old at) }
     ensures few { result.at ≤ at + 65600 }
 {

@@ -66,7 +66,7 @@ fn put_row(
     at: usize,
 ) -> usize
     requires { Flat cap n nums.now names.now × (i < n) × (at < 2 ^ 62) }
-    ensures row { Puts (row_shown queue.now (rows_of nums.now names.now n) i) out at result }
+    ensures row { Puts (row_shown queue.now (rows_of nums.now names.now n) i) out.old out.new at result }
     ensures few { result ≤ at + 512 }
 {
     let m = marks(nums, names, cap, n, i, queue);
@@ -91,7 +91,7 @@ fn put_rows(
     at: usize,
 ) -> usize
     requires { Flat cap n nums.now names.now × (n ≤ 64) × (at < 2 ^ 61) }
-    ensures rows { Puts (cat (row_shown queue.now (rows_of nums.now names.now n)) (range 0 n)) out at result }
+    ensures rows { Puts (cat (row_shown queue.now (rows_of nums.now names.now n)) (range 0 n)) out.old out.new at result }
     ensures few { result ≤ at + n * 512 }
 {
     let mut a = at;
@@ -108,7 +108,7 @@ fn put_rows(
 // The parts of dirs, as runs.
 fn put_spans(dirs: &[u8], spans: &[u32], out: &mut [u8], at: usize) -> usize
     requires { AllInside dirs.now spans.now × (length spans.now ≤ 256) × (at < 2 ^ 61) }
-    ensures runs { Puts (cat (λ x. run_of (spelled dirs.now x)) spans.now) out at result }
+    ensures runs { Puts (cat (λ x. run_of (spelled dirs.now x)) spans.now) out.old out.new at result }
     ensures few { result ≤ at + length spans.now * 514 }
 {
     let mut a = at;
@@ -132,7 +132,7 @@ fn no_spans() -> [u32; 256]
 // The first m directories, as runs, in order; the cells of spans are for sorting.
 fn put_sorted(dirs: &[u8], m: usize, spans: &mut [u32], out: &mut [u8], at: usize) -> usize
     requires { (m * dir_width ≤ length dirs.now) × (m ≤ 256) × (length spans.old ≡ m) × (at < 2 ^ 61) }
-    ensures runs { Puts (cat run_of (in_order (dirs_of dirs.now m))) out at result }
+    ensures runs { Puts (cat run_of (in_order (dirs_of dirs.now m))) out.old out.new at result }
     ensures few { result ≤ at + m * 514 }
     ensures parts { spans.new ≡ sort (span_before dirs.now) (dir_spans (dirs_of dirs.now m)) }
 {
@@ -144,7 +144,7 @@ fn put_sorted(dirs: &[u8], m: usize, spans: &mut [u32], out: &mut [u8], at: usiz
 // The first m directories: their count, and they in order.
 fn put_dirs(dirs: &[u8], m: usize, out: &mut [u8], at: usize) -> usize
     requires { (m * dir_width ≤ length dirs.now) × (m ≤ 256) × (at < 2 ^ 60) }
-    ensures dirs { Puts (dirs_shown (dirs_of dirs.now m)) out at result }
+    ensures dirs { Puts (dirs_shown (dirs_of dirs.now m)) out.old out.new at result }
     ensures few { result ≤ at + 200000 }
 {
     let mut spans = no_spans();
@@ -157,7 +157,7 @@ fn put_dirs(dirs: &[u8], m: usize, out: &mut [u8], at: usize) -> usize
 // A pool: counter, rows, queue, directories.
 fn put_pool(nums: &[u64], names: &[u8], dirs: &[u8], pool: Pool, out: &mut [u8], at: usize) -> usize
     requires { IsPool (bufs pool nums.now names.now dirs.now) × (at < 2 ^ 59) }
-    ensures pool { Puts (pool_shown (view (bufs pool nums.now names.now dirs.now))) out at result }
+    ensures pool { Puts (pool_shown (view (bufs pool nums.now names.now dirs.now))) out.old out.new at result }
     ensures few { result ≤ at + 300000 }
 {
     let cap = pool.chosen.rows;
@@ -182,7 +182,7 @@ pub fn put_record(
     at: usize,
 ) -> usize
     requires { at < 2 ^ 58 }
-    ensures record { Puts (record_shown (bufs pool nums.now names.now dirs.now)) out at result }
+    ensures record { Puts (record_shown (bufs pool nums.now names.now dirs.now)) out.old out.new at result }
     ensures few { result ≤ at + 400000 }
 {
     if pool_test::pool_ok(nums, names, dirs, pool) {
@@ -197,7 +197,7 @@ pub fn put_record(
 // Numbers, as u32 each.
 fn put_lengths(phys: &[u64], out: &mut [u8], at: usize) -> usize
     requires { at < 2 ^ 62 }
-    ensures puts { Puts (cat (le 4) phys.now) out at result }
+    ensures puts { Puts (cat (le 4) phys.now) out.old out.new at result }
     ensures few { result ≤ at + length phys.now * row_width }
 {
     let mut a = at;
@@ -212,7 +212,7 @@ fn put_lengths(phys: &[u64], out: &mut [u8], at: usize) -> usize
 // The plan's place, the physical lengths, and the bytes.
 pub fn put_device(bytes: &[u8], phys: &[u64], place: Place, out: &mut [u8], at: usize) -> usize
     requires { at < 2 ^ 61 }
-    ensures { Puts (device_shown (dev bytes.now phys.now place)) out at result }
+    ensures { Puts (device_shown (dev bytes.now phys.now place)) out.old out.new at result }
 {
     let a = output::put_le(out, at, 4, place.at as u64);
     let b = put_lengths(phys, out, a);

@@ -46,8 +46,8 @@ pub fn read_slot(
     at: u64,
     buf: &mut [u8],
 ) -> SlotCount
-    ensures { slot_read result.number result.count buf.new (dev_before bytes phys place.new)
-        ≡ read_slot_m plan.now geometry slot at buf.old (dev_before bytes phys place.old) }
+    ensures { slot_read result.number result.count buf.new (dev_before bytes.now phys.now place.new)
+        ≡ read_slot_m plan.now geometry slot at buf.old (dev_before bytes.now phys.now place.old) }
 {
     let got = read_by_value(bytes, phys, geometry, plan, *place, slot, at, buf);
     *place = got.place;
@@ -65,8 +65,8 @@ pub fn write_slot(
     at: u64,
     src: &[u8],
 ) -> u8
-    ensures { slot_done result (dev_after bytes phys place.new)
-        ≡ write_slot_m plan.now geometry slot at src.now (dev_before bytes phys place.old) }
+    ensures { slot_done result (dev_after bytes.new phys.new place.new)
+        ≡ write_slot_m plan.now geometry slot at src.now (dev_before bytes.old phys.old place.old) }
 {
     let came = write_by_value(bytes, phys, geometry, plan, *place, slot, at, src);
     *place = came.place;
@@ -86,9 +86,9 @@ pub fn sync_slot(
     len: u64,
     generation: u64,
 ) -> u8
-    ensures { slot_done result (dev_after bytes phys place.new)
+    ensures { slot_done result (dev_after bytes.new phys.new place.new)
         ≡ sync_slot_m plan.now geometry slot in_use path.now len generation
-        (dev_before bytes phys place.old) }
+        (dev_before bytes.old phys.old place.old) }
 {
     let came = sync_by_value(
         bytes, phys, geometry, plan, *place, slot, in_use, path, len, generation,
@@ -106,8 +106,8 @@ pub fn flush_slot(
     place: &mut Place,
     slot: usize,
 ) -> u8
-    ensures { slot_done result (dev_before bytes phys place.new)
-        ≡ flush_slot_m plan.now geometry slot (dev_before bytes phys place.old) }
+    ensures { slot_done result (dev_before bytes.now phys.now place.new)
+        ≡ flush_slot_m plan.now geometry slot (dev_before bytes.now phys.now place.old) }
 {
     let came = flush_by_value(bytes, phys, geometry, plan, *place, slot);
     *place = came.place;
@@ -124,8 +124,8 @@ pub fn truncate_slot(
     slot: usize,
     len: u64,
 ) -> u8
-    ensures { slot_done result (dev_after bytes phys place.new)
-        ≡ truncate_slot_m plan.now geometry slot len (dev_before bytes phys place.old) }
+    ensures { slot_done result (dev_after bytes.new phys.new place.new)
+        ≡ truncate_slot_m plan.now geometry slot len (dev_before bytes.old phys.old place.old) }
 {
     let came = truncate_by_value(bytes, phys, geometry, plan, *place, slot, len);
     *place = came.place;
@@ -164,8 +164,8 @@ pub fn read_by_value(
     at: u64,
     buf: &mut [u8],
 ) -> SlotGot
-    ensures { slot_read result.told.number result.told.count buf.new (dev_before bytes phys result.place)
-        ≡ read_slot_m plan.now geometry slot at buf.old (dev_before bytes phys place) }
+    ensures { slot_read result.told.number result.told.count buf.new (dev_before bytes.now phys.now result.place)
+        ≡ read_slot_m plan.now geometry slot at buf.old (dev_before bytes.now phys.now place) }
 {
     let number = refusal(bytes, phys, geometry, &[], slot);
     if number != 0 {
@@ -196,8 +196,8 @@ pub fn write_by_value(
     at: u64,
     src: &[u8],
 ) -> SlotCame
-    ensures { slot_done result.told (dev_after bytes phys result.place)
-        ≡ write_slot_m plan.now geometry slot at src.now (dev_before bytes phys place) }
+    ensures { slot_done result.told (dev_after bytes.new phys.new result.place)
+        ≡ write_slot_m plan.now geometry slot at src.now (dev_before bytes.old phys.old place) }
 {
     let number = refusal(bytes, phys, geometry, &[], slot);
     if number != 0 {
@@ -226,8 +226,8 @@ pub fn sync_by_value(
     len: u64,
     generation: u64,
 ) -> SlotCame
-    ensures { slot_done result.told (dev_after bytes phys result.place)
-        ≡ sync_slot_m plan.now geometry slot in_use path.now len generation (dev_before bytes phys place) }
+    ensures { slot_done result.told (dev_after bytes.new phys.new result.place)
+        ≡ sync_slot_m plan.now geometry slot in_use path.now len generation (dev_before bytes.old phys.old place) }
 {
     let number = refusal(bytes, phys, geometry, path, slot);
     if number != 0 {
@@ -258,8 +258,8 @@ pub fn flush_by_value(
     place: Place,
     slot: usize,
 ) -> SlotCame
-    ensures { slot_done result.told (dev_before bytes phys result.place)
-        ≡ flush_slot_m plan.now geometry slot (dev_before bytes phys place) }
+    ensures { slot_done result.told (dev_before bytes.now phys.now result.place)
+        ≡ flush_slot_m plan.now geometry slot (dev_before bytes.now phys.now place) }
 {
     let number = refusal(bytes, phys, geometry, &[], slot);
     if number != 0 {
@@ -285,8 +285,8 @@ pub fn truncate_by_value(
     slot: usize,
     len: u64,
 ) -> SlotCame
-    ensures { slot_done result.told (dev_after bytes phys result.place)
-        ≡ truncate_slot_m plan.now geometry slot len (dev_before bytes phys place) }
+    ensures { slot_done result.told (dev_after bytes.new phys.new result.place)
+        ≡ truncate_slot_m plan.now geometry slot len (dev_before bytes.old phys.old place) }
 {
     let number = refusal(bytes, phys, geometry, &[], slot);
     if number != 0 {

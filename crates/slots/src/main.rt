@@ -251,7 +251,7 @@ fn reply(
 ) -> Progress
     requires { InBuffers (length line.now) (length out.old) run }
     ensures within { InBuffers (length line.now) (length out.new) result × (result.at ≡ run.at) }
-    ensures whole { AnswerWaits (take run.held line.now) (before bytes phys run.place nums names dirs run.pool)
+    ensures whole { AnswerWaits (take run.held line.now) (before bytes.old phys.old run.place nums.old names.old dirs.old run.pool)
         (length out.old) out.new result.used }
 {
     let held = run.held;

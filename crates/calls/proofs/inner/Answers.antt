@@ -24,73 +24,74 @@ as-chosen plan g h i e k d x q = q ∙ ap (λ (y : Chosen). mounted (mount_m pla
 pub mount_rows-d-requires : goal.mount_rows-d-requires
 unfolding takes_of
 mount_rows-d-requires c =
-    rw c.choose-chosen.ensures (mounts_on _ _ _ _ _ _ c.requires c.call-1.given.1 refl)
+    let all = rw c.choose-chosen.ensures (mounts_on _ _ _ _ _ _ c.requires c.in-Mount.is refl) in
+    record { shape = all.0; nums_len = all.1 }
 
 pub returns-in-Mount : goal.returns-in-Mount
 unfolding inner_m
 returns-in-Mount c =
-    arm _ _ _ _ _ _ _ _ _ c.call-1.given.1
+    arm _ _ _ _ _ _ _ _ _ c.in-Mount.is
     (quiet_is _ _ _ _ _ _ _ _ _ _ c.quiet.ensures _ (as-chosen _ _ _ _ c.choose-chosen.ensures _ _ _ c.mount_rows-d.ensures))
 
 pub adopt-d-requires : goal.adopt-d-requires
 unfolding takes_of
 adopt-d-requires c =
-    ready _ _ _ _ _ _ c.requires c.call-in-Adopt-1.given.1 refl
+    ready _ _ _ _ _ _ c.requires c.in-Adopt.is refl
 
 pub returns-in-Adopt : goal.returns-in-Adopt
 unfolding inner_m
 returns-in-Adopt c =
-    arm _ _ _ _ _ _ _ _ _ c.call-in-Adopt-1.given.1 (quiet_is _ _ _ _ _ _ _ _ _ _ c.quiet-in-Adopt.ensures _ c.adopt-d.ensures)
+    arm _ _ _ _ _ _ _ _ _ c.in-Adopt.is (quiet_is _ _ _ _ _ _ _ _ _ _ c.quiet-in-Adopt.ensures _ c.adopt-d.ensures)
 
 pub read_at-d-requires : goal.read_at-d-requires
 unfolding takes_of
 read_at-d-requires c =
-    ready _ _ _ _ _ _ c.requires c.call-in-ReadAt-1.given.1 refl
+    ready _ _ _ _ _ _ c.requires c.in-ReadAt.is refl
 
 pub returns-in-ReadAt : goal.returns-in-ReadAt
 unfolding inner_m
 returns-in-ReadAt c =
-    arm _ _ _ _ _ _ _ _ _ c.call-in-ReadAt-1.given.1 (ap (filled) c.read_at-d.ensures)
+    arm _ _ _ _ _ _ _ _ _ c.in-ReadAt.is (ap (filled) c.read_at-d.ensures)
 
 pub write_at-d-requires : goal.write_at-d-requires
 unfolding takes_of
 write_at-d-requires c =
-    ready _ _ _ _ _ _ c.requires c.call-in-WriteAt-1.given.1 refl
+    ready _ _ _ _ _ _ c.requires c.in-WriteAt.is refl
 
 pub returns-in-WriteAt : goal.returns-in-WriteAt
 unfolding inner_m
 returns-in-WriteAt c =
-    arm _ _ _ _ _ _ _ _ _ c.call-in-WriteAt-1.given.1 (quiet_is _ _ _ _ _ _ _ _ _ _ c.quiet-in-WriteAt.ensures _ c.write_at-d.ensures)
+    arm _ _ _ _ _ _ _ _ _ c.in-WriteAt.is (quiet_is _ _ _ _ _ _ _ _ _ _ c.quiet-in-WriteAt.ensures _ c.write_at-d.ensures)
 
 pub set_len-d-requires : goal.set_len-d-requires
 unfolding takes_of
 set_len-d-requires c =
-    ready _ _ _ _ _ _ c.requires c.call-in-SetLen-1.given.1 refl
+    ready _ _ _ _ _ _ c.requires c.in-SetLen.is refl
 
 pub returns-in-SetLen : goal.returns-in-SetLen
 unfolding inner_m
 returns-in-SetLen c =
-    arm _ _ _ _ _ _ _ _ _ c.call-in-SetLen-1.given.1 (quiet_is _ _ _ _ _ _ _ _ _ _ c.quiet-in-SetLen.ensures _ c.set_len-d.ensures)
+    arm _ _ _ _ _ _ _ _ _ c.in-SetLen.is (quiet_is _ _ _ _ _ _ _ _ _ _ c.quiet-in-SetLen.ensures _ c.set_len-d.ensures)
 
 pub file_len-d-requires : goal.file_len-d-requires
 unfolding takes_of
 file_len-d-requires c =
-    (ready _ _ _ _ _ _ c.requires c.call-in-FileLen-1.given.1 refl).pool
+    (ready _ _ _ _ _ _ c.requires c.in-FileLen.is refl).pool
 
 pub returns-in-FileLen : goal.returns-in-FileLen
 unfolding inner_m
 returns-in-FileLen c =
-    arm _ _ _ _ _ _ _ _ _ c.call-in-FileLen-1.given.1 (ap (measured c.args.buf.now _) c.file_len-d.ensures)
+    arm _ _ _ _ _ _ _ _ _ c.in-FileLen.is (ap (measured c.args.buf.now _) c.file_len-d.ensures)
 
 pub sync-d-requires : goal.sync-d-requires
 unfolding takes_of
 sync-d-requires c =
-    ready _ _ _ _ _ _ c.requires c.call-in-Sync-1.given.1 refl
+    ready _ _ _ _ _ _ c.requires c.in-Sync.is refl
 
 pub returns-in-Sync : goal.returns-in-Sync
 unfolding inner_m
 returns-in-Sync c =
-    arm _ _ _ _ _ _ _ _ _ c.call-in-Sync-1.given.1 (quiet_is _ _ _ _ _ _ _ _ _ _ c.quiet-in-Sync.ensures _ c.sync-d.ensures)
+    arm _ _ _ _ _ _ _ _ _ c.in-Sync.is (quiet_is _ _ _ _ _ _ _ _ _ _ c.quiet-in-Sync.ensures _ c.sync-d.ensures)
 
 pub on_path-requires-clause-passed : goal.on_path-requires-clause-passed
 on_path-requires-clause-passed c =

@@ -13,6 +13,5 @@ pub returns : goal.returns
 unfolding data_read_m
 returns c =
     let a = c.args in
-    let s = c.requires in
     c.read_at.ensures ∙ read_clamped a.plan.now a.geometry a.slot a.at a.dst.now a.bytes.now
-    a.phys.now a.place c.file_pos-pos.ensures (s.0.within a.slot s.1)
+    a.phys.now a.place c.file_pos-pos.ensures (c.requires.shape.within a.slot c.requires.slot_in_bounds)

@@ -5,4 +5,4 @@ use Rattle.device.proofs.header_write.Goals as goal
 pub returns : goal.returns
 unfolding header_write_m
 returns c =
-    c.write_at.ensures
+    record { same = c.write_at.ensures.same; kept = c.write_at.ensures.kept }

@@ -5,4 +5,4 @@ use Rattle.device.proofs.lay.Goals as goal
 pub returns : goal.returns
 returns c =
     let a = c.args in
-    copied_back a.at a.dst.now a.src.now c.requires c.copy.ensures.1
+    copied_back a.at a.dst.now a.src.now c.requires c.copy_from_slice.ensures.after

@@ -8,10 +8,8 @@ use native.Mathlib.Omega.{arith}
 use lib.ListN.{length, get_or}
 use lib.Dec.{leb}
 use Rattle.lists.specs.Runs.{all_of, from_start, all_next, all_not, all_end}
+use Rattle.device.proofs.lengths_ok.Invariants.{fits}
 use Rattle.device.proofs.lengths_ok.Goals as goal
-
-abbrev fits : List ℕ → ℕ → ℕ → Bool
-fits phys size i = leb (get_or phys i 0) size
 
 pub loop-i-init : goal.loop-i-init
 loop-i-init c =

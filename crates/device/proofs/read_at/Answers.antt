@@ -1,5 +1,6 @@
 -- One law for each way out: `read_failed`, `read_past`, `read_done`.
 use native.Mathlib.Omega.{arith}
+use lib.ListN.{length-take, length-drop}
 use Rattle.device.proofs.Shapes.{slotted}
 use Rattle.device.specs.Slots.{share_le}
 use Rattle.device.proofs.Ways.{read_failed, read_past, read_done}
@@ -17,14 +18,12 @@ returns-then-end-pos c =
 
 pub overflow_mul-from : goal.overflow_mul-from
 overflow_mul-from c =
-    let start = «Start» in
-    let s = slotted start.pre.0 start.pre.1 in
+    let s = slotted c.requires.shape c.requires.slot_in_bounds in
     omega arith
 
 pub overflow_add-from : goal.overflow_add-from
 overflow_add-from c =
-    let start = «Start» in
-    let s = slotted start.pre.0 start.pre.1 in
+    let s = slotted c.requires.shape c.requires.slot_in_bounds in
     omega arith
 
 pub overflow_add-upto : goal.overflow_add-upto
@@ -33,10 +32,34 @@ overflow_add-upto c =
     let k = share_le c.turn_of-byte.result c.least.result in
     omega arith
 
+pub slice_bounds-copy_from_slice-end : goal.slice_bounds-copy_from_slice-end
+slice_bounds-copy_from_slice-end c =
+    let s = slotted c.requires.shape c.requires.slot_in_bounds in
+    let k = share_le c.turn_of-byte.result c.least.result in
+    omega arith
+
+pub slice_bounds-copy_from_slice-length : goal.slice_bounds-copy_from_slice-length
+slice_bounds-copy_from_slice-length c =
+    let s = slotted c.requires.shape c.requires.slot_in_bounds in
+    let k = share_le c.turn_of-byte.result c.least.result in
+    simp length-take (omega arith)
+
+pub slice_bounds-copy_from_slice-end-2 : goal.slice_bounds-copy_from_slice-end-2
+slice_bounds-copy_from_slice-end-2 c =
+    let s = slotted c.requires.shape c.requires.slot_in_bounds in
+    let k = share_le c.turn_of-byte.result c.least.result in
+    omega arith
+
+pub copy_from_slice-requires : goal.copy_from_slice-requires
+copy_from_slice-requires c =
+    let s = slotted c.requires.shape c.requires.slot_in_bounds in
+    let k = share_le c.turn_of-byte.result c.least.result in
+    simp (length-take, length-drop) (omega arith)
+
 pub returns : goal.returns
 returns c =
     let a = c.args in
     let s = slotted c.requires.shape c.requires.slot_in_bounds in
     let k = share_le c.turn_of-byte.result c.least.result in
     read_done a.plan.now a.geometry a.slot a.pos a.dst.now a.bytes.now a.phys.now a.place c.turn_of-byte.ensures c.if-byte-eq1.false
-    c.least.ensures c.share_of-n.ensures (omega arith) c.copy.ensures.1 c.next-2.ensures
+    c.least.ensures c.share_of-n.ensures (omega arith) (rw c.copy_from_slice.ensures.after) c.next-2.ensures

@@ -3,7 +3,6 @@ use mathlib.Core.Path.{sym, ◌∙◌, ap}
 use native.Mathlib.Omega.{arith}
 use lib.ListN.{length}
 use lib.Seq.{length-take-le}
-use borrow.Author.Tests.{not-true, not-false}
 use Rattle.dir_rows.specs.Dirs.{absent}
 use Rattle.dir_rows.specs.Rows.{dirs_of}
 use Rattle.path.proofs.Ancestors.{up_falls}
@@ -34,7 +33,7 @@ loop-e-preserved-then-not-dir_find c =
     let t = c.loop-e-test.true in
     let u = c.above-up.ensures in
     let f = up_falls _ _ _ (omega arith) t u in
-    let q = absent_more _ _ _ (omega arith) t u _ (sym c.dir_find.ensures ∙ not-true _ c.if-not-dir_find.true) in
+    let q = absent_more _ _ _ (omega arith) t u _ (sym c.dir_find.ensures ∙ c.if-not-dir_find.true) in
     (omega arith, omega (arith, ap length q))
 
 pub loop-e-smaller : goal.loop-e-smaller
@@ -47,7 +46,7 @@ loop-e-preserved c =
     let t = c.loop-e-test.true in
     let u = c.above-up.ensures in
     let f = up_falls _ _ _ (omega arith) t u in
-    let q = absent_same _ _ _ (omega arith) t u _ (sym c.dir_find.ensures ∙ not-false _ c.if-not-dir_find.false) in
+    let q = absent_same _ _ _ (omega arith) t u _ (sym c.dir_find.ensures ∙ c.if-not-dir_find.false) in
     (omega arith, omega (arith, ap length q))
 
 pub returns : goal.returns

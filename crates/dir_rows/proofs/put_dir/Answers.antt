@@ -26,5 +26,5 @@ put_at-requires c =
 
 pub returns : goal.returns
 returns c =
-    let n = c.normalize-k in
-    row_put _ _ _ c.requires.0 c.requires.1 _ c.requires.2 n.ensures.laid n.ensures.long c.put_at.ensures
+    let n = c.normalize-k in let all = row_put _ _ _ c.requires.0 c.requires.1 _ c.requires.2 n.ensures.laid n.ensures.long c.put_at.ensures in
+    record { rows = all.0; flat = all.1 }

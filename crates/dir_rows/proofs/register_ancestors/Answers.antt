@@ -2,7 +2,6 @@
 use mathlib.Core.Path.{sym, ◌∙◌}
 use native.Mathlib.Omega.{arith}
 use lib.Seq.{length-take-le}
-use borrow.Author.Tests.{not-true, not-false}
 use Rattle.dir_rows.proofs.InBuffer.{dirs_long}
 use Rattle.path.proofs.Ancestors.{up_falls}
 use Rattle.dir_rows.proofs.Walks.{going_start, going_same, going_more, going_room, going_short, going_done}
@@ -33,7 +32,7 @@ pub put_dir-requires : goal.put_dir-requires
 put_dir-requires c =
     let g = c.loop-end.invariant in
     let s = c.requires in
-    let h = sym c.dir_find-held.ensures ∙ not-true _ c.if-not-held.true in (
+    let h = sym c.dir_find-held.ensures ∙ c.if-not-held.true in (
       g.flat,
       going_room _ _ _ _ _ _ _ _ g c.loop-end-test.true c.above-up.ensures h s.1,
       going_short _ _ _ _ _ _ _ _ g c.loop-end-test.true c.above-up.ensures s.2,
@@ -43,7 +42,7 @@ pub overflow_add-n : goal.overflow_add-n
 overflow_add-n c =
     let g = c.loop-end.invariant in
     let s = c.requires in
-    let h = sym c.dir_find-held.ensures ∙ not-true _ c.if-not-held.true in
+    let h = sym c.dir_find-held.ensures ∙ c.if-not-held.true in
     omega (arith, going_room _ _ _ _ _ _ _ _ g c.loop-end-test.true c.above-up.ensures h s.1)
 
 pub loop-end-smaller-then-not-held : goal.loop-end-smaller-then-not-held
@@ -53,8 +52,8 @@ loop-end-smaller-then-not-held c =
 pub loop-end-preserved-then-not-held : goal.loop-end-preserved-then-not-held
 loop-end-preserved-then-not-held c =
     let g = c.loop-end.invariant in
-    let h = sym c.dir_find-held.ensures ∙ not-true _ c.if-not-held.true in
-    going_more _ _ _ _ _ _ _ _ g c.loop-end-test.true c.above-up.ensures h _ c.put_dir.ensures
+    let h = sym c.dir_find-held.ensures ∙ c.if-not-held.true in
+    going_more _ _ _ _ _ _ _ _ g c.loop-end-test.true c.above-up.ensures h _ (c.put_dir.ensures.rows, c.put_dir.ensures.flat)
 
 pub loop-end-smaller : goal.loop-end-smaller
 loop-end-smaller c =
@@ -62,7 +61,7 @@ loop-end-smaller c =
 
 pub loop-end-preserved : goal.loop-end-preserved
 loop-end-preserved c =
-    going_same _ _ _ _ _ _ _ _ c.loop-end.invariant c.loop-end-test.true c.above-up.ensures (sym c.dir_find-held.ensures ∙ not-false _ c.if-not-held.false)
+    going_same _ _ _ _ _ _ _ _ c.loop-end.invariant c.loop-end-test.true c.above-up.ensures (sym c.dir_find-held.ensures ∙ c.if-not-held.false)
 
 pub shape_of-dirs : goal.shape_of-dirs
 shape_of-dirs c =
@@ -71,4 +70,5 @@ shape_of-dirs c =
 
 pub returns : goal.returns
 returns c =
-    going_done _ _ _ _ _ _ _ c.loop-end.invariant (omega arith)
+    let all = going_done _ _ _ _ _ _ _ c.loop-end.invariant (omega arith) in
+    record { rows = all.0; flat = all.1 }

@@ -19,8 +19,8 @@ register_ancestors-requires c =
 pub returns-then-dir_find : goal.returns-then-dir_find
 returns-then-dir_find c =
     let s = c.requires in
-    let h = sym c.dir_find.ensures ∙ c.if-dir_find.true in
-    held_done _ _ _ _ s.1 h _ _ c.register_ancestors.ensures
+    let h = sym c.dir_find.ensures ∙ c.if-dir_find.true in let all = held_done _ _ _ _ s.1 h _ _ (c.register_ancestors.ensures.rows, c.register_ancestors.ensures.flat) in
+    record { rows = all.0; flat = all.1 }
 
 pub put_dir-requires : goal.put_dir-requires
 put_dir-requires c =
@@ -32,10 +32,10 @@ pub register_ancestors-requires-2 : goal.register_ancestors-requires-2
 register_ancestors-requires-2 c =
     let s = c.requires in
     let h = sym c.dir_find.ensures ∙ c.if-dir_find.false in
-    (c.put_dir.ensures.flat, next_room _ _ _ _ s.1 h _ c.put_dir.ensures, s.2)
+    (c.put_dir.ensures.flat, next_room _ _ _ _ s.1 h _ (c.put_dir.ensures.rows, c.put_dir.ensures.flat), s.2)
 
 pub returns : goal.returns
 returns c =
     let s = c.requires in
-    let h = sym c.dir_find.ensures ∙ c.if-dir_find.false in
-    next_done _ _ _ _ s.1 h _ c.put_dir.ensures _ _ c.register_ancestors-2.ensures
+    let h = sym c.dir_find.ensures ∙ c.if-dir_find.false in let all = next_done _ _ _ _ s.1 h _ (c.put_dir.ensures.rows, c.put_dir.ensures.flat) _ _ (c.register_ancestors-2.ensures.rows, c.register_ancestors-2.ensures.flat) in
+    record { rows = all.0; flat = all.1 }

@@ -25,7 +25,7 @@ said c =
     let n : length (take block_len b) ≡ block_len = length-take-le block_len b (at-zeros c).before.if2.false in
     let m : length z ≡ block_len = ap length (at-zeros c).zeros.ensures ∙ length-replicate {A = ℕ} block_len 0 in
     c.decode.ensures
-    ∙ ap (λ (w : List ℕ). decoded w (length b)) (c.before.before.copy.ensures.1 ∙ copied_whole (take block_len b) z (n ∙ sym m))
+    ∙ ap (λ (w : List ℕ). decoded w (length b)) (c.before.before.copy_from_slice.ensures.after ∙ copied_whole (take block_len b) z (n ∙ sym m))
 
 pub returns-then-out-lt32 : goal.returns-then-out-lt32
 returns-then-out-lt32 c =

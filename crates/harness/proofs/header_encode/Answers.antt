@@ -26,4 +26,4 @@ pub returns : goal.returns
 returns c =
     let a = c.args in
     encode_done a.in_use a.len a.generation a.path.now a.out.now (is-text «Else1») c.if-path_len-gt-MAX_PATH.false c.if-out-lt-LEN.false
-    (c.copy.ensures.1 ∙ copied c.encode-block.result a.out.now ∙ ap (laid a.out.now 0) c.encode-block.ensures)
+    (c.copy_from_slice.ensures.after ∙ copied c.encode-block.result a.out.now ∙ ap (laid a.out.now 0) c.encode-block.ensures)

@@ -1,6 +1,5 @@
 -- One law for each way out: `one_not`, `one_due`.
 use mathlib.Core.Path.{sym, ◌∙◌}
-use borrow.Author.Tests.{not-true, not-false}
 use Rattle.pool_state.specs.InBuffers.{pool_rows}
 use Rattle.inner_dirs.proofs.Ways.{due_bound, one_not, one_due}
 use Rattle.inner_dirs.proofs.sync_one.Goals as goal
@@ -11,19 +10,16 @@ is_due-requires c =
 
 pub returns-then-not-is_due : goal.returns-then-not-is_due
 returns-then-not-is_due c =
-    let pre = c.requires in
-    one_not _ _ _ _ _ pre.0.pool (sym c.is_due.ensures ∙ not-true c.is_due.result c.if-not-is_due.true)
+    one_not _ _ _ _ _ c.requires.ready.pool (sym c.is_due.ensures ∙ c.if-not-is_due.true)
 
 pub sync_row-put-requires : goal.sync_row-put-requires
 sync_row-put-requires c =
-    let pre = c.requires in
     let is-due = c.is_due in
-    let if1 = c.if-not-is_due in
-    (pre.0, (pre.1, due_bound _ _ (sym is-due.ensures ∙ not-false is-due.result if1.false)))
+    let if1 = c.if-not-is_due in record { ready = c.requires.ready; i_lt_held = (c.requires.i_lt_held, due_bound _ _ (sym is-due.ensures ∙ if1.false)) }
 
 pub returns : goal.returns
 returns c =
     let is-due = c.is_due in
     let if1 = c.if-not-is_due in
     let sync-row = c.sync_row-put in
-    one_due _ _ _ _ _ (sym is-due.ensures ∙ not-false is-due.result if1.false) _ _ sync-row.ensures
+    one_due _ _ _ _ _ (sym is-due.ensures ∙ if1.false) _ _ sync-row.ensures

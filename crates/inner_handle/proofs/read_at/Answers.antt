@@ -2,7 +2,6 @@
 use mathlib.Core.Path.{sym, ◌∙◌}
 use lib.Seq.{length-take-le}
 use Rattle.pool_state.specs.InBuffers.{pool_rows}
-use borrow.Author.Tests.{not-true, not-false}
 use native.Mathlib.Omega.{arith}
 use Rattle.inner_handle.specs.Handles.{read_at_m}
 use Rattle.inner_handle.proofs.Ways.{live_row, live_device, stale, goes, read_none, read_some}
@@ -16,20 +15,20 @@ pub returns-then-not-live : goal.returns-then-not-live
 unfolding read_at_m
 returns-then-not-live c =
     stale _ _ _ _ _ c.requires.pool
-    (sym c.live.ensures ∙ not-true c.live.result c.if-not-live.true)
+    (sym c.live.ensures ∙ c.if-not-live.true)
 
 pub row_len-len-requires : goal.row_len-len-requires
 row_len-len-requires c =
     (
       pool_rows _ c.requires.pool,
       (live_row _ _ _ _ _
-          (sym c.live.ensures ∙ not-false c.live.result c.if-not-live.false)).0,
+          (sym c.live.ensures ∙ c.if-not-live.false)).0,
     )
 
 pub returns-then-len-at : goal.returns-then-len-at
 unfolding read_at_m
 returns-then-len-at c =
-    goes _ _ _ _ _ _ (sym c.live.ensures ∙ not-false c.live.result c.if-not-live.false)
+    goes _ _ _ _ _ _ (sym c.live.ensures ∙ c.if-not-live.false)
     (read_none _ _ _ _ _ _ c.requires.pool _ c.row_len-len.ensures c.if-len-at.true)
 
 pub slice_bounds-data_read-end-2 : goal.slice_bounds-data_read-end-2
@@ -38,13 +37,14 @@ slice_bounds-data_read-end-2 c =
 
 pub data_read-got-requires : goal.data_read-got-requires
 data_read-got-requires c =
-    live_device _ _ c.requires _ _
-    (sym c.live.ensures ∙ not-false c.live.result c.if-not-live.false)
+    let all = live_device _ _ c.requires _ _
+    (sym c.live.ensures ∙ c.if-not-live.false) in
+    record { shape = all.0; slot_in_bounds = all.1 }
 
 pub returns : goal.returns
 unfolding read_at_m
 returns c =
-    goes _ _ _ _ _ _ (sym c.live.ensures ∙ not-false c.live.result c.if-not-live.false)
+    goes _ _ _ _ _ _ (sym c.live.ensures ∙ c.if-not-live.false)
     (read_some _ _ _ _ _ _ c.requires.pool _ c.row_len-len.ensures
     c.if-len-at.false _
     c.wanted-want.ensures _ _ c.data_read-got.ensures)

@@ -45,4 +45,5 @@ shape_of-spans c =
 
 pub returns : goal.returns
 returns c =
-    picking_end _ _ _ _ _ _ _ c.loop-j.invariant _ c.loop-j-test.false (child_dirs_lem _ _ _)
+    let all = picking_end _ _ _ _ _ _ _ c.loop-j.invariant _ c.loop-j-test.false (child_dirs_lem _ _ _) in
+    record { count = all.0; picked = all.1 }

@@ -46,4 +46,5 @@ shape_of-spans c =
 
 pub returns : goal.returns
 returns c =
-    picking_end _ _ _ _ _ _ _ c.loop-i.invariant _ c.loop-i-test.false (child_files_lem _ _ _ _)
+    let all = picking_end _ _ _ _ _ _ _ c.loop-i.invariant _ c.loop-i-test.false (child_files_lem _ _ _ _) in
+    record { count = all.0; picked = all.1 }

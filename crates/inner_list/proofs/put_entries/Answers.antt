@@ -52,4 +52,5 @@ shape_of-buf c =
 
 pub returns : goal.returns
 returns c =
-    putting_end _ _ _ _ _ _ _ _ c.loop-i.invariant c.loop-i-test.false
+    let all = putting_end _ _ _ _ _ _ _ _ c.loop-i.invariant c.loop-i-test.false in
+    record { end = all.0; written = all.1 }

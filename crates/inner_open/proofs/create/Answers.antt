@@ -13,7 +13,8 @@ next_generation-spent-requires c =
 
 pub data_truncate-cut-requires : goal.data_truncate-cut-requires
 data_truncate-cut-requires c =
-    slot_device _ _ c.requires.ready c.requires.free_nonzero.0 c.requires.free_nonzero.1 _ c.pop_free-popped.ensures
+    let all = slot_device _ _ c.requires.ready c.requires.free_nonzero.0 c.requires.free_nonzero.1 _ c.pop_free-popped.ensures in
+    record { shape = all.0; slot_in_bounds = all.1 }
 
 pub push_free-requires : goal.push_free-requires
 push_free-requires c =
@@ -22,21 +23,19 @@ push_free-requires c =
 
 pub returns-then-last-ne0 : goal.returns-then-last-ne0
 returns-then-last-ne0 c =
-    let p = c.requires in
     answered _ _ _ _ _ _ _ _ c.refused.ensures
-    (create_stopped _ _ p.0 p.1.0.0 p.1.0.1 _ c.pop_free-popped.ensures _
+    (create_stopped _ _ c.requires.ready c.requires.free_nonzero.0 c.requires.free_nonzero.1 _ c.pop_free-popped.ensures _
     c.next_generation-spent.ensures _ _ _ c.data_truncate-cut.ensures.same
     c.if-last-ne0.true _ c.push_free.ensures)
 
 pub bind-made-requires : goal.bind-made-requires
 bind-made-requires c =
-    let p = c.requires in
-    bind_ready _ _ p.0 p.1.0.0 p.1.0.1 _ c.pop_free-popped.ensures _
-    c.next_generation-spent.ensures _ p.1.0.2 p.1.1
+    let all = bind_ready _ _ c.requires.ready c.requires.free_nonzero.0 c.requires.free_nonzero.1 _ c.pop_free-popped.ensures _
+    c.next_generation-spent.ensures _ c.requires.free_nonzero.2 c.requires.path_len_bound in
+    record { pool = all.0; path_len_bound = all.1 }
 
 pub returns : goal.returns
 returns c =
-    let p = c.requires in
-    create_done _ _ p.0 p.1.0.0 p.1.0.1 _ c.pop_free-popped.ensures _
+    create_done _ _ c.requires.ready c.requires.free_nonzero.0 c.requires.free_nonzero.1 _ c.pop_free-popped.ensures _
     c.next_generation-spent.ensures _ _ _ c.data_truncate-cut.ensures.same
     c.if-last-ne0.false _ refl _ c.bind-made.ensures

@@ -43,8 +43,9 @@ returns-then-no-ne0 c =
 
 pub create-requires : goal.create-requires
 create-requires c =
-    some_ready _ _ _ c.requires c.if-free-eq0.false c.if-path-gt-MAX_PATH.false _ c.room-no.ensures
-    c.if-no-ne0.false
+    let all = some_ready _ _ _ c.requires c.if-free-eq0.false c.if-path-gt-MAX_PATH.false _ c.room-no.ensures
+    c.if-no-ne0.false in
+    record { ready = all.0; free_nonzero = all.1.0; path_len_bound = all.1.1 }
 
 pub returns : goal.returns
 returns c =

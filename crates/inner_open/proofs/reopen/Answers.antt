@@ -18,7 +18,8 @@ returns-then-keep c =
 
 pub data_truncate-cut-requires : goal.data_truncate-cut-requires
 data_truncate-cut-requires c =
-    on_slot_lem _ _ _ c.requires.ready c.requires.i_lt_held.0
+    let all = on_slot_lem _ _ _ c.requires.ready c.requires.i_lt_held.0 in
+    record { shape = all.0; slot_in_bounds = all.1 }
 
 pub returns-then-last-ne0 : goal.returns-then-last-ne0
 returns-then-last-ne0 c =
@@ -32,6 +33,5 @@ set_row_len-requires c =
 
 pub returns : goal.returns
 returns c =
-    let s = c.set_row_len.ensures in
     reopen_done _ _ _ _ c.requires.ready.pool _ c.if-keep.false _
-    c.data_truncate-cut.ensures.same c.if-last-ne0.false _ c.row_generation-generation.ensures _ s.0 s.1
+    c.data_truncate-cut.ensures.same c.if-last-ne0.false _ c.row_generation-generation.ensures _ c.set_row_len.ensures.rows c.set_row_len.ensures.flat

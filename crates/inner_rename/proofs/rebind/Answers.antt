@@ -9,8 +9,9 @@ row_len-len-requires c =
 
 pub put_header-put-requires : goal.put_header-put-requires
 put_header-put-requires c =
-    header_ready _ _ _ c.requires.ready c.requires.i_lt_held.0 c.args.to.now c.requires.i_lt_held.3 _ _ _
-    c.bound-header.ensures
+    let all = header_ready _ _ _ c.requires.ready c.requires.i_lt_held.0 c.args.to.now c.requires.i_lt_held.3 _ _ _
+    c.bound-header.ensures in
+    record { shape = all.0; path_len = all.1 }
 
 pub next_generation-spent-requires : goal.next_generation-spent-requires
 next_generation-spent-requires c =
@@ -27,7 +28,6 @@ set_row_len-requires c =
 
 pub returns : goal.returns
 returns c =
-    let s = c.set_row_len.ensures in
     rebind_stopped _ _ c.requires.ready _ _ _ _ c.row_len-len.ensures _
     c.bound-header.ensures _ c.put_header-put.ensures.same _
-    c.next_generation-spent.ensures c.if-last-eq0.false _ s.0 s.1
+    c.next_generation-spent.ensures c.if-last-eq0.false _ c.set_row_len.ensures.rows c.set_row_len.ensures.flat

@@ -1,6 +1,5 @@
 -- One law for each way out: `rename_stopped`, `rename_failed`, `rename_done`.
 use mathlib.Core.Path.{◌∙◌}
-use borrow.Author.Tests.{not-true, not-false}
 use Rattle.pool_state.specs.InBuffers.{pool_rows}
 use Rattle.inner_rename.proofs.Ways.{from_held, rebind_ready, settle_ready, rename_stopped, rename_failed, rename_done}
 use Rattle.inner_rename.proofs.rename.Goals as goal
@@ -11,30 +10,32 @@ front-f-requires c =
 
 pub returns-then-not-go : goal.returns-then-not-go
 returns-then-not-go c =
-    rename_stopped _ _ c.requires _ _ _ _ c.front-f.ensures (not-true c.front-f.result.go c.if-not-go.true)
+    rename_stopped _ _ c.requires _ _ _ _ c.front-f.ensures (c.if-not-go.true)
 
 pub row_len-len-requires : goal.row_len-len-requires
 row_len-len-requires c =
     (
       pool_rows _ c.requires.pool,
       from_held _ _ c.requires c.args.plan.now _ _ _ c.front-f.ensures
-          (not-false c.front-f.result.go c.if-not-go.false),
+          (c.if-not-go.false),
     )
 
 pub rebind-moved-requires : goal.rebind-moved-requires
 rebind-moved-requires c =
-    rebind_ready _ _ c.requires c.args.plan.now _ _ _ c.front-f.ensures
-    (not-false c.front-f.result.go c.if-not-go.false)
+    let all = rebind_ready _ _ c.requires c.args.plan.now _ _ _ c.front-f.ensures
+    (c.if-not-go.false) in
+    record { ready = all.0; i_lt_held = all.1 }
 
 pub returns-then-last-ne0 : goal.returns-then-last-ne0
 returns-then-last-ne0 c =
     rename_failed _ _ c.requires _ _ _ _ c.front-f.ensures
-    (not-false c.front-f.result.go c.if-not-go.false) _ _ _ c.rebind-moved.ensures c.if-last-ne0.true
+    (c.if-not-go.false) _ _ _ c.rebind-moved.ensures c.if-last-ne0.true
 
 pub settle-requires : goal.settle-requires
 settle-requires c =
-    settle_ready _ _ c.requires _ _ _ _ c.front-f.ensures
-    (not-false c.front-f.result.go c.if-not-go.false) _ _ _ c.rebind-moved.ensures
+    let all = settle_ready _ _ c.requires _ _ _ _ c.front-f.ensures
+    (c.if-not-go.false) _ _ _ c.rebind-moved.ensures in
+    record { ready = all.0; fact = all.1.0; i_lt_held = all.1.1 }
 
 pub shape_of-bytes : goal.shape_of-bytes
 shape_of-bytes c =
@@ -59,5 +60,5 @@ shape_of-dirs c =
 pub returns : goal.returns
 returns c =
     rename_done _ _ c.requires _ _ _ _ c.front-f.ensures
-    (not-false c.front-f.result.go c.if-not-go.false) _ _ _ c.rebind-moved.ensures
+    (c.if-not-go.false) _ _ _ c.rebind-moved.ensures
     c.if-last-ne0.false _ c.row_len-len.ensures _ c.settle.ensures

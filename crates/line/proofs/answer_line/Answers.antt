@@ -30,11 +30,11 @@ at-parse c =
 
 pub slice_bounds-create-count : goal.slice_bounds-create-count
 slice_bounds-create-count c =
-    create_fits _ _ c.parse-command.ensures _ c.command-1.given.1
+    create_fits _ _ c.parse-command.ensures _ c.in-Create.is
 
 pub slice_bounds-create-start : goal.slice_bounds-create-start
 slice_bounds-create-start c =
-    create_fits _ _ c.parse-command.ensures _ c.command-1.given.1
+    create_fits _ _ c.parse-command.ensures _ c.in-Create.is
 
 pub shape_of-bytes-in-Create : goal.shape_of-bytes-in-Create
 shape_of-bytes-in-Create c =
@@ -62,15 +62,15 @@ shape_of-out-in-Create c =
 
 pub returns-in-Create : goal.returns-in-Create
 returns-in-Create c =
-    create_line _ _ c.parse-command.ensures _ _ _ c.command-1.given.1 c.create.ensures
+    create_line _ _ c.parse-command.ensures _ _ _ c.in-Create.is c.create.ensures
 
 pub slice_bounds-sync-count : goal.slice_bounds-sync-count
 slice_bounds-sync-count c =
-    sync_fits _ _ c.parse-command.ensures _ c.command-in-Sync-1.given.1
+    sync_fits _ _ c.parse-command.ensures _ c.in-Sync.is
 
 pub slice_bounds-sync-start : goal.slice_bounds-sync-start
 slice_bounds-sync-start c =
-    sync_fits _ _ c.parse-command.ensures _ c.command-in-Sync-1.given.1
+    sync_fits _ _ c.parse-command.ensures _ c.in-Sync.is
 
 pub shape_of-bytes-in-Sync : goal.shape_of-bytes-in-Sync
 shape_of-bytes-in-Sync c =
@@ -98,15 +98,15 @@ shape_of-out-in-Sync c =
 
 pub returns-in-Sync : goal.returns-in-Sync
 returns-in-Sync c =
-    sync_line _ _ c.parse-command.ensures _ _ _ c.command-in-Sync-1.given.1 c.sync.ensures
+    sync_line _ _ c.parse-command.ensures _ _ _ c.in-Sync.is c.sync.ensures
 
 pub slice_bounds-end-count : goal.slice_bounds-end-count
 slice_bounds-end-count c =
-    remove_fits _ _ c.parse-command.ensures _ c.command-in-Remove-1.given.1
+    remove_fits _ _ c.parse-command.ensures _ c.in-Remove.is
 
 pub slice_bounds-end-start : goal.slice_bounds-end-start
 slice_bounds-end-start c =
-    remove_fits _ _ c.parse-command.ensures _ c.command-in-Remove-1.given.1
+    remove_fits _ _ c.parse-command.ensures _ c.in-Remove.is
 
 pub shape_of-bytes-in-Remove : goal.shape_of-bytes-in-Remove
 shape_of-bytes-in-Remove c =
@@ -134,31 +134,31 @@ shape_of-out-in-Remove c =
 
 pub returns-in-Remove : goal.returns-in-Remove
 returns-in-Remove c =
-    remove_line _ _ c.parse-command.ensures _ _ _ c.command-in-Remove-1.given.1 c.end.ensures
+    remove_line _ _ c.parse-command.ensures _ _ _ c.in-Remove.is c.end.ensures
 
 pub slice_bounds-end-count-in-Move : goal.slice_bounds-end-count-in-Move
 slice_bounds-end-count-in-Move c =
-    (move_fits _ _ c.parse-command.ensures _ _ c.command-in-Move-1.given.1).0
+    (move_fits _ _ c.parse-command.ensures _ _ c.in-Move.is).0
 
 pub slice_bounds-end-start-in-Move : goal.slice_bounds-end-start-in-Move
 slice_bounds-end-start-in-Move c =
-    (move_fits _ _ c.parse-command.ensures _ _ c.command-in-Move-1.given.1).0
+    (move_fits _ _ c.parse-command.ensures _ _ c.in-Move.is).0
 
 pub slice_bounds-end-end-in-Move : goal.slice_bounds-end-end-in-Move
 slice_bounds-end-end-in-Move c =
-    omega (arith, (move_fits _ _ c.parse-command.ensures _ _ c.command-in-Move-1.given.1).1)
+    omega (arith, (move_fits _ _ c.parse-command.ensures _ _ c.in-Move.is).1)
 
 pub overflow_add-j : goal.overflow_add-j
 overflow_add-j c =
-    omega (arith, (move_fits _ _ (at-parse c).parse.ensures _ _ c.command-in-Move-1.given.1).1)
+    omega (arith, (move_fits _ _ (at-parse c).parse.ensures _ _ c.in-Move.is).1)
 
 pub slice_bounds-end-count-in-Move-2 : goal.slice_bounds-end-count-in-Move-2
 slice_bounds-end-count-in-Move-2 c =
-    omega (arith, (move_fits _ _ c.parse-command.ensures _ _ c.command-in-Move-1.given.1).1)
+    omega (arith, (move_fits _ _ c.parse-command.ensures _ _ c.in-Move.is).1)
 
 pub slice_bounds-end-start-in-Move-2 : goal.slice_bounds-end-start-in-Move-2
 slice_bounds-end-start-in-Move-2 c =
-    omega (arith, (move_fits _ _ c.parse-command.ensures _ _ c.command-in-Move-1.given.1).1)
+    omega (arith, (move_fits _ _ c.parse-command.ensures _ _ c.in-Move.is).1)
 
 pub shape_of-bytes-in-Move : goal.shape_of-bytes-in-Move
 shape_of-bytes-in-Move c =
@@ -186,12 +186,12 @@ shape_of-out-in-Move c =
 
 pub returns-in-Move : goal.returns-in-Move
 returns-in-Move c =
-    move_line _ _ c.parse-command.ensures _ _ _ _ c.command-in-Move-1.given.1 c.end-in-Move.ensures
+    move_line _ _ c.parse-command.ensures _ _ _ _ c.in-Move.is c.end-in-Move.ensures
 
 pub returns-in-Dump : goal.returns-in-Dump
 returns-in-Dump c =
-    dump_line _ _ c.parse-command.ensures _ _ c.enum_told-1.given.1 c.say_dump.ensures
+    dump_line _ _ c.parse-command.ensures _ _ c.in-Dump.is c.say_dump.ensures
 
 pub returns-in-What : goal.returns-in-What
 returns-in-What c =
-    what_line _ _ c.parse-command.ensures _ _ c.enum_told-in-What-1.given.1 c.say_what.ensures
+    what_line _ _ c.parse-command.ensures _ _ c.in-What.is c.say_what.ensures

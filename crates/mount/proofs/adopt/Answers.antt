@@ -29,7 +29,8 @@ returns-then-phys-n c =
 
 pub stage-staged-requires : goal.stage-staged-requires
 stage-staged-requires c =
-    stage_fits c.args.plan.now c.args.geometry c.args.k (lent (dev c.args.bytes.now c.args.phys.now c.args.place) (bufs c.args.pool c.args.nums.now c.args.names.now c.args.dirs.now)) c.requires (omega (arith, c.if-cap-n.false)) (omega (arith, c.if-phys-n.false))
+    let all = stage_fits c.args.plan.now c.args.geometry c.args.k (lent (dev c.args.bytes.now c.args.phys.now c.args.place) (bufs c.args.pool c.args.nums.now c.args.names.now c.args.dirs.now)) c.requires (omega (arith, c.if-cap-n.false)) (omega (arith, c.if-phys-n.false)) in
+    record { shape = all.0; k_bound = all.1 }
 
 pub returns-then-failed : goal.returns-then-failed
 returns-then-failed c =
@@ -49,11 +50,12 @@ returns-then-out-ne0 c =
 
 pub install-held-requires : goal.install-held-requires
 install-held-requires c =
-    install_fits c.args.plan.now c.args.geometry c.args.k (lent (dev c.args.bytes.now c.args.phys.now c.args.place) (bufs c.args.pool c.args.nums.now c.args.names.now c.args.dirs.now)) c.requires (omega (arith, c.if-cap-n.false)) (omega (arith, c.if-phys-n.false)) _ c.stage-staged.ensures.place (sym c.stage-staged.ensures.failed ∙ c.if-failed.false) _ _ (c.stage-staged.ensures.rows c.if-failed.false) (c.stage-staged.ensures.flat c.if-failed.false) _ _ c.find_losers-losers.ensures.list c.find_losers-losers.ensures.count c.find_losers-losers.ensures.few _ _ c.stage-staged.ensures.asked c.later-counter.ensures _ c.accept-accepted.ensures.out c.if-out-ne0.false _ _ _ _ c.accept-accepted.ensures.taken
+    let all = install_fits c.args.plan.now c.args.geometry c.args.k (lent (dev c.args.bytes.now c.args.phys.now c.args.place) (bufs c.args.pool c.args.nums.now c.args.names.now c.args.dirs.now)) c.requires (omega (arith, c.if-cap-n.false)) (omega (arith, c.if-phys-n.false)) _ c.stage-staged.ensures.place (sym c.stage-staged.ensures.failed ∙ c.if-failed.false) _ _ (c.stage-staged.ensures.rows c.if-failed.false) (c.stage-staged.ensures.flat c.if-failed.false) _ _ c.find_losers-losers.ensures.list c.find_losers-losers.ensures.count c.find_losers-losers.ensures.few _ _ c.stage-staged.ensures.asked c.later-counter.ensures _ c.accept-accepted.ensures.out c.if-out-ne0.false _ _ _ _ c.accept-accepted.ensures.taken in
+    record { flat_2 = all.0; count_bound = all.1 }
 
 pub drain-drained-requires : goal.drain-drained-requires
 drain-drained-requires c =
-    drain_fits c.args.plan.now c.args.geometry c.args.k
+    let all = drain_fits c.args.plan.now c.args.geometry c.args.k
     (lent (dev c.args.bytes.now c.args.phys.now c.args.place)
     (bufs c.args.pool c.args.nums.now c.args.names.now c.args.dirs.now)) c.requires
     (omega (arith, c.if-cap-n.false)) (omega (arith, c.if-phys-n.false)) _ c.stage-staged.ensures.place
@@ -64,7 +66,8 @@ drain-drained-requires c =
     c.stage-staged.ensures.asked c.later-counter.ensures _ c.accept-accepted.ensures.out
     c.if-out-ne0.false _ _ _ _ c.accept-accepted.ensures.taken _ _ _
     c.install-held.ensures.pool c.install-held.ensures.rows
-    c.install-held.ensures.flat
+    c.install-held.ensures.flat in
+    record { ready = all.0; count_bound = all.1 }
 
 pub shape_of-nums : goal.shape_of-nums
 shape_of-nums c =

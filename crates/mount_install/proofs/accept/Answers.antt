@@ -1,5 +1,4 @@
 -- One law for each way out: `refused_eight`, `refused_nine`, `accepted`.
-use borrow.Author.Tests.{not-true, not-false}
 use Rattle.mount_install.specs.Install.{three}
 use Rattle.mount_install.proofs.Walks.{refused_eight, found_flat, found_more, refused_nine, accepted}
 use native.Mathlib.Omega.{arith}
@@ -7,16 +6,19 @@ use Rattle.mount_install.proofs.accept.Goals as goal
 
 pub returns-then-not-ok : goal.returns-then-not-ok
 returns-then-not-ok c =
-    refused_eight c.args.pool.chosen.rows c.args.pool.chosen.dir_rows c.args.pool.held c.args.m c.args.pool.dirs c.args.counter c.args.losers (three c.args.nums.now c.args.names.now c.args.dirs.now) c.requires.0 c.requires.1 _ _ c.register_claims-found.ensures.told c.register_claims-found.ensures.dirs (not-true _ c.if-not-ok.true) _ _ c.unstage.ensures.nums c.unstage.ensures.names
+    let all = refused_eight c.args.pool.chosen.rows c.args.pool.chosen.dir_rows c.args.pool.held c.args.m c.args.pool.dirs c.args.counter c.args.losers (three c.args.nums.now c.args.names.now c.args.dirs.now) c.requires.0 c.requires.1 _ _ c.register_claims-found.ensures.told c.register_claims-found.ensures.dirs (c.if-not-ok.true) _ _ c.unstage.ensures.nums c.unstage.ensures.names in
+    record { out = all.0; taken = all.1.0; back = all.1.1 }
 
 pub clear_dirs-requires : goal.clear_dirs-requires
 clear_dirs-requires c =
-    ((found_flat c.args.pool.chosen.rows c.args.pool.chosen.dir_rows c.args.pool.held c.args.m c.args.pool.dirs c.args.counter c.args.losers (three c.args.nums.now c.args.names.now c.args.dirs.now) c.requires.0 c.requires.1 _ _ c.register_claims-found.ensures.told c.register_claims-found.ensures.dirs (not-false _ c.if-not-ok.false)).1, found_more c.args.pool.chosen.rows c.args.pool.chosen.dir_rows c.args.pool.held c.args.m c.args.pool.dirs c.args.counter c.args.losers (three c.args.nums.now c.args.names.now c.args.dirs.now) c.requires.0 c.requires.1 _ _ c.register_claims-found.ensures.told c.register_claims-found.ensures.dirs (not-false _ c.if-not-ok.false))
+    ((found_flat c.args.pool.chosen.rows c.args.pool.chosen.dir_rows c.args.pool.held c.args.m c.args.pool.dirs c.args.counter c.args.losers (three c.args.nums.now c.args.names.now c.args.dirs.now) c.requires.0 c.requires.1 _ _ c.register_claims-found.ensures.told c.register_claims-found.ensures.dirs (c.if-not-ok.false)).1, found_more c.args.pool.chosen.rows c.args.pool.chosen.dir_rows c.args.pool.held c.args.m c.args.pool.dirs c.args.counter c.args.losers (three c.args.nums.now c.args.names.now c.args.dirs.now) c.requires.0 c.requires.1 _ _ c.register_claims-found.ensures.told c.register_claims-found.ensures.dirs (c.if-not-ok.false))
 
 pub returns-then-losers-counter : goal.returns-then-losers-counter
 returns-then-losers-counter c =
-    refused_nine c.args.pool.chosen.rows c.args.pool.chosen.dir_rows c.args.pool.held c.args.m c.args.pool.dirs c.args.counter c.args.losers (three c.args.nums.now c.args.names.now c.args.dirs.now) c.requires.0 c.requires.1 _ _ c.register_claims-found.ensures.told c.register_claims-found.ensures.dirs (not-false _ c.if-not-ok.false) _ _ _ (omega arith) c.unstage-then-losers-counter.ensures.nums c.unstage-then-losers-counter.ensures.names c.clear_dirs.ensures
+    let all = refused_nine c.args.pool.chosen.rows c.args.pool.chosen.dir_rows c.args.pool.held c.args.m c.args.pool.dirs c.args.counter c.args.losers (three c.args.nums.now c.args.names.now c.args.dirs.now) c.requires.0 c.requires.1 _ _ c.register_claims-found.ensures.told c.register_claims-found.ensures.dirs (c.if-not-ok.false) _ _ _ (omega arith) c.unstage-then-losers-counter.ensures.nums c.unstage-then-losers-counter.ensures.names c.clear_dirs.ensures in
+    record { out = all.0; taken = all.1.0; back = all.1.1 }
 
 pub returns : goal.returns
 returns c =
-    accepted c.args.pool.chosen.rows c.args.pool.chosen.dir_rows c.args.pool.held c.args.m c.args.pool.dirs c.args.counter c.args.losers (three c.args.nums.now c.args.names.now c.args.dirs.now) c.requires.0 c.requires.1 _ _ c.register_claims-found.ensures.told c.register_claims-found.ensures.dirs (not-false _ c.if-not-ok.false) (omega arith)
+    let all = accepted c.args.pool.chosen.rows c.args.pool.chosen.dir_rows c.args.pool.held c.args.m c.args.pool.dirs c.args.counter c.args.losers (three c.args.nums.now c.args.names.now c.args.dirs.now) c.requires.0 c.requires.1 _ _ c.register_claims-found.ensures.told c.register_claims-found.ensures.dirs (c.if-not-ok.false) (omega arith) in
+    record { out = all.0; taken = all.1.0; back = all.1.1 }

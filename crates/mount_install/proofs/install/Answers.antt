@@ -5,4 +5,8 @@ use Rattle.mount_install.proofs.install.Goals as goal
 
 pub returns : goal.returns
 returns c =
-    (ap (holding c.args.m c.args.dirs c.args.counter) c.queue_spares-r.ensures, (c.unbind_losers.ensures.rows, c.unbind_losers.ensures.flat))
+    record {
+      pool = ap (holding c.args.m c.args.dirs c.args.counter) c.queue_spares-r.ensures;
+      rows = c.unbind_losers.ensures.rows;
+      flat = c.unbind_losers.ensures.flat;
+    }

@@ -1,7 +1,6 @@
 -- Carried by the record `Going`: registering what is left gives the whole.
 use Prim.Native.Nat.{◌-◌}
 use mathlib.Core.Path.{sym, ◌∙◌}
-use borrow.Author.Tests.{not-true, not-false}
 use Rattle.dir_rows.proofs.InBuffer.{dirs_long}
 use Rattle.mount_install.proofs.Walks.{going_start, going_more, going_flat, going_full, going_done}
 use native.Mathlib.Omega.{arith}
@@ -17,16 +16,17 @@ register_row-one-requires c =
 
 pub clear_dirs-requires : goal.clear_dirs-requires
 clear_dirs-requires c =
-    (going_flat _ _ _ _ _ _ _ _ _ _ _ c.loop-i.invariant c.loop-i-test.true _ _ c.register_row-one.ensures.told c.register_row-one.ensures.dirs (not-true _ c.if-not-ok.true), c.loop-i.invariant.onward)
+    (going_flat _ _ _ _ _ _ _ _ _ _ _ c.loop-i.invariant c.loop-i-test.true _ _ c.register_row-one.ensures.told c.register_row-one.ensures.dirs (c.if-not-ok.true), c.loop-i.invariant.onward)
 
 pub shape_of-dirs-then-not-ok : goal.shape_of-dirs-then-not-ok
 shape_of-dirs-then-not-ok c =
-    let f = going_flat _ _ _ _ _ _ _ _ _ _ _ c.loop-i.invariant c.loop-i-test.true _ _ c.register_row-one.ensures.told c.register_row-one.ensures.dirs (not-true _ c.if-not-ok.true) in
+    let f = going_flat _ _ _ _ _ _ _ _ _ _ _ c.loop-i.invariant c.loop-i-test.true _ _ c.register_row-one.ensures.told c.register_row-one.ensures.dirs (c.if-not-ok.true) in
     omega (arith, c.clear_dirs.auto.dirs, dirs_long _ _ _ f, dirs_long _ _ _ c.requires.1)
 
 pub returns-then-not-ok : goal.returns-then-not-ok
 returns-then-not-ok c =
-    going_full _ _ _ _ _ _ _ _ _ _ _ c.loop-i.invariant c.loop-i-test.true _ _ c.register_row-one.ensures.told c.register_row-one.ensures.dirs (not-true _ c.if-not-ok.true) c.requires.1 _ c.clear_dirs.ensures
+    let all = going_full _ _ _ _ _ _ _ _ _ _ _ c.loop-i.invariant c.loop-i-test.true _ _ c.register_row-one.ensures.told c.register_row-one.ensures.dirs (c.if-not-ok.true) c.requires.1 _ c.clear_dirs.ensures in
+    record { told = all.0; dirs = all.1 }
 
 pub overflow_add-i : goal.overflow_add-i
 overflow_add-i c =
@@ -38,7 +38,7 @@ loop-i-smaller c =
 
 pub loop-i-preserved : goal.loop-i-preserved
 loop-i-preserved c =
-    going_more _ _ _ _ _ _ _ _ _ _ _ c.loop-i.invariant c.requires.0 c.loop-i-test.true _ _ c.register_row-one.ensures.told c.register_row-one.ensures.dirs (not-false _ c.if-not-ok.false)
+    going_more _ _ _ _ _ _ _ _ _ _ _ c.loop-i.invariant c.requires.0 c.loop-i-test.true _ _ c.register_row-one.ensures.told c.register_row-one.ensures.dirs (c.if-not-ok.false)
 
 pub shape_of-dirs : goal.shape_of-dirs
 shape_of-dirs c =
@@ -46,4 +46,5 @@ shape_of-dirs c =
 
 pub returns : goal.returns
 returns c =
-    going_done _ _ _ _ _ _ _ _ _ _ _ c.loop-i.invariant (omega arith)
+    let all = going_done _ _ _ _ _ _ _ _ _ _ _ c.loop-i.invariant (omega arith) in
+    record { told = all.0; dirs = all.1 }

@@ -23,7 +23,8 @@ missing-more-requires c =
 
 pub returns-then-dir_cap-d : goal.returns-then-dir_cap-d
 returns-then-dir_cap-d c =
-    row_full _ _ _ _ c.requires.1 _ (name_part _ _ _ _ c.requires.0 _ c.requires.2 _ c.path_len-k.ensures).1 _ c.missing-more.ensures c.if-dir_cap-d.true
+    let all = row_full _ _ _ _ c.requires.1 _ (name_part _ _ _ _ c.requires.0 _ c.requires.2 _ c.path_len-k.ensures).1 _ c.missing-more.ensures c.if-dir_cap-d.true in
+    record { told = all.0; dirs = all.1 }
 
 pub overflow_add-from-2 : goal.overflow_add-from-2
 overflow_add-from-2 c =
@@ -40,4 +41,5 @@ register_ancestors-e-requires c =
 
 pub returns : goal.returns
 returns c =
-    row_done _ _ _ _ c.requires.1 _ (name_part _ _ _ _ c.requires.0 _ c.requires.2 _ c.path_len-k.ensures).1 _ _ c.register_ancestors-e.ensures.rows c.register_ancestors-e.ensures.flat
+    let all = row_done _ _ _ _ c.requires.1 _ (name_part _ _ _ _ c.requires.0 _ c.requires.2 _ c.path_len-k.ensures).1 _ _ c.register_ancestors-e.ensures.rows c.register_ancestors-e.ensures.flat in
+    record { told = all.0; dirs = all.1 }

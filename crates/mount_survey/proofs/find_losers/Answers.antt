@@ -49,4 +49,5 @@ loop-i-preserved c =
 
 pub returns : goal.returns
 returns c =
-    finding_done _ _ _ (length_rows _ _ _) (omega (arith, c.requires.0.few)) _ _ _ _ c.loop-i-test.false c.loop-i.invariant
+    let all = finding_done _ _ _ (length_rows _ _ _) (omega (arith, c.requires.0.few)) _ _ _ _ c.loop-i-test.false c.loop-i.invariant in
+    record { list = all.0; count = all.1.0; few = all.1.1 }

@@ -16,13 +16,11 @@ loop-i-init c =
 
 pub stage_slot-s-requires : goal.stage_slot-s-requires
 stage_slot-s-requires c =
-    let pre = c.requires in
-    let loop-test = c.loop-i-test in
-    ((pre.0.0, c.loop-i.invariant.flat), (omega (arith, pre.1.0, loop-test.true), omega (arith, pre.1.1, loop-test.true)))
+    let loop-test = c.loop-i-test in record { shape = (c.requires.shape.0, c.loop-i.invariant.flat); i_lt_cap = (omega (arith, c.requires.k_bound.0, loop-test.true), omega (arith, c.requires.k_bound.1, loop-test.true)) }
 
 pub unstage-requires : goal.unstage-requires
 unstage-requires c =
-    stages_held _ _ _ _ _ _ _ _ _ _ _ _ c.loop-i-test.true _ _ _ _ _ _ c.loop-i.invariant c.stage_slot-s.ensures c.if-failed.true
+    stages_held _ _ _ _ _ _ _ _ _ _ _ _ c.loop-i-test.true _ _ _ _ _ _ c.loop-i.invariant (c.stage_slot-s.ensures.place, (c.stage_slot-s.ensures.failed, (c.stage_slot-s.ensures.asked, (c.stage_slot-s.ensures.rows, (c.stage_slot-s.ensures.flat, c.stage_slot-s.ensures.kept))))) c.if-failed.true
 
 pub shape_of-nums-then-failed : goal.shape_of-nums-then-failed
 shape_of-nums-then-failed c =
@@ -34,13 +32,13 @@ shape_of-names-then-failed c =
 
 pub returns-then-failed : goal.returns-then-failed
 returns-then-failed c =
-    let unstage = c.unstage in
-    stages_stop _ _ _ _ _ _ _ _ _ _ _ _ c.loop-i-test.true _ _ _ _ _ _ c.loop-i.invariant
-    c.stage_slot-s.ensures _ _ c.if-failed.true c.requires.shape.1 unstage.ensures.nums unstage.ensures.names
+    let unstage = c.unstage in let all = stages_stop _ _ _ _ _ _ _ _ _ _ _ _ c.loop-i-test.true _ _ _ _ _ _ c.loop-i.invariant
+    (c.stage_slot-s.ensures.place, (c.stage_slot-s.ensures.failed, (c.stage_slot-s.ensures.asked, (c.stage_slot-s.ensures.rows, (c.stage_slot-s.ensures.flat, c.stage_slot-s.ensures.kept))))) _ _ c.if-failed.true c.requires.shape.1 unstage.ensures.nums unstage.ensures.names in
+    record { place = all.0; failed = all.1.0; asked = all.1.1.0; rows = all.1.1.1.0; flat = all.1.1.1.1.0; kept = all.1.1.1.1.1 }
 
 pub loop-i-preserved : goal.loop-i-preserved
 loop-i-preserved c =
-    stages_next _ _ _ _ _ _ _ _ _ _ _ _ c.loop-i-test.true _ _ _ _ _ _ c.loop-i.invariant c.stage_slot-s.ensures c.if-failed.false
+    stages_next _ _ _ _ _ _ _ _ _ _ _ _ c.loop-i-test.true _ _ _ _ _ _ c.loop-i.invariant (c.stage_slot-s.ensures.place, (c.stage_slot-s.ensures.failed, (c.stage_slot-s.ensures.asked, (c.stage_slot-s.ensures.rows, (c.stage_slot-s.ensures.flat, c.stage_slot-s.ensures.kept))))) c.if-failed.false
 
 pub shape_of-nums : goal.shape_of-nums
 shape_of-nums c =
@@ -52,4 +50,5 @@ shape_of-names c =
 
 pub returns : goal.returns
 returns c =
-    stages_done _ _ _ _ _ _ _ _ _ _ _ _ _ _ _ c.loop-i-test.false c.loop-i.invariant
+    let all = stages_done _ _ _ _ _ _ _ _ _ _ _ _ _ _ _ c.loop-i-test.false c.loop-i.invariant in
+    record { place = all.0; failed = all.1.0; asked = all.1.1.0; rows = all.1.1.1.0; flat = all.1.1.1.1.0; kept = all.1.1.1.1.1 }

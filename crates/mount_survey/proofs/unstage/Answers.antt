@@ -30,5 +30,4 @@ zero_in-requires c =
 
 pub returns : goal.returns
 returns c =
-    let pre = c.requires in
-    (nums_cut _ _ _ _ _ pre.0 pre.1 _ c.zero_nums.ensures, names_cut _ _ _ _ _ pre.0 pre.1 _ c.zero_in.ensures)
+    let pre = c.requires in record { nums = nums_cut _ _ _ _ _ pre.0 pre.1 _ c.zero_nums.ensures; names = names_cut _ _ _ _ _ pre.0 pre.1 _ c.zero_in.ensures }

@@ -1,6 +1,5 @@
 -- The invariant: what is to be compared is what is left of both, joined alike. `cmp_differ` settles the first components that differ.
 use Rattle.std.proofs.Common.{◌-◌, false, sym, ◌∙◌, arith}
-use borrow.Author.Tests.{not-true, not-false}
 use Rattle.path.proofs.Orders.{cmp_start, cmp_done, cmp_less, cmp_greater, cmp_differ, cmp_on}
 use Rattle.path.proofs.compare.Goals as goal
 
@@ -39,7 +38,7 @@ returns-then-not-same_bytes c =
     let if4 = c.if-not-same_bytes in
     c.compare_names.ensures
     ∙ cmp_differ _ _ _ _ _ _ _ _ next.ensures next2.ensures _ loop.invariant.2.1 if1.false if3.false _ _ _ _ next3.ensures
-    next4.ensures (sym same_bytes_lem.ensures ∙ not-true _ if4.true)
+    next4.ensures (sym same_bytes_lem.ensures ∙ if4.true)
 
 pub loop-i-preserved : goal.loop-i-preserved
 loop-i-preserved c =
@@ -51,5 +50,5 @@ loop-i-preserved c =
       omega arith,
       omega arith,
       cmp_on _ _ _ _ _ _ _ _ next.ensures next2.ensures _ loop.invariant.2.1 if1.false if3.false
-          (sym c.same_bytes.ensures ∙ not-false _ c.if-not-same_bytes.false),
+          (sym c.same_bytes.ensures ∙ c.if-not-same_bytes.false),
     )

@@ -27,21 +27,21 @@ pub returns-then-a-i : goal.returns-then-a-i
 returns-then-a-i c =
     let args = c.args in
     let loop = c.loop-i in
-    let s = names_both args.more-a args.more-b args.a.now args.b.now loop.i (omega arith) (omega arith) in
+    let s = names_both args.more_a args.more_b args.a.now args.b.now loop.i (omega arith) (omega arith) in
     sym (loop.invariant.2 ∙ s ∙ rw (nat_less _ _ c.if-a-i.true))
 
 pub returns-then-b-i-2 : goal.returns-then-b-i-2
 returns-then-b-i-2 c =
     let args = c.args in
     let loop = c.loop-i in
-    let s = names_both args.more-a args.more-b args.a.now args.b.now loop.i (omega arith) (omega arith) in
+    let s = names_both args.more_a args.more_b args.a.now args.b.now loop.i (omega arith) (omega arith) in
     sym (loop.invariant.2 ∙ s ∙ rw (nat_greater _ _ c.if-b-i-2.true))
 
 pub loop-i-preserved : goal.loop-i-preserved
 loop-i-preserved c =
     let args = c.args in
     let loop = c.loop-i in
-    let s = names_both args.more-a args.more-b args.a.now args.b.now loop.i (omega arith) (omega arith) in
+    let s = names_both args.more_a args.more_b args.a.now args.b.now loop.i (omega arith) (omega arith) in
     (omega arith, omega arith, loop.invariant.2 ∙ s ∙ rw (nat_same _ _ c.if-a-i.false c.if-b-i-2.false))
 
 pub returns-then-b-i-3 : goal.returns-then-b-i-3

@@ -1,7 +1,5 @@
 -- The parent is a front of the file's spelling: `parent_some`.
-use Rattle.std.proofs.Common.{sym, ◌∙◌, subst, length-take-le}
-use Rattle.lists.specs.declared.Found.{Found}
-use Rattle.path.specs.Walk.{UpOf}
+use Rattle.std.proofs.Common.{sym, ◌∙◌, length-take-le}
 use Rattle.path.proofs.Parents.{parent_none, parent_some}
 use Rattle.path.proofs.is_parent.Goals as goal
 
@@ -9,16 +7,15 @@ pub slice_bounds-same_path-end : goal.slice_bounds-same_path-end
 slice_bounds-same_path-end c =
     let args = c.args in
     let parent-end = c.parent_end-up in
-    let u = subst (λ (x : Found). UpOf args.file.now x) c.up-1.given.1 parent-end.ensures in
+    let u = c.in-At.ensures in
     sym (length-take-le _ _ u.inside)
 
 pub returns-in-Nothing : goal.returns-in-Nothing
 returns-in-Nothing c =
-    parent_none _ _ (subst (λ (x : Found). UpOf c.args.file.now x) c.enum_told-1.given.1 c.parent_end-up.ensures)
+    parent_none _ _ c.in-Nothing.ensures
 
 pub returns-in-At : goal.returns-in-At
 returns-in-At c =
     let args = c.args in
-    let up = c.up-1 in
     let parent-end = c.parent_end-up in
-    c.same_path.ensures ∙ parent_some _ _ _ (subst (λ (x : Found). UpOf args.file.now x) up.given.1 parent-end.ensures)
+    c.same_path.ensures ∙ parent_some _ _ _ c.in-At.ensures

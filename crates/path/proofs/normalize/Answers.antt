@@ -14,7 +14,8 @@ shape_of-dst-then-s-e c =
 
 pub returns-then-s-e : goal.returns-then-s-e
 returns-then-s-e c =
-    normal_done _ _ _ _ _ _ _ _ c.loop-at.invariant.2 c.next-p.ensures c.if-s-e.true
+    let all = normal_done _ _ _ _ _ _ _ _ c.loop-at.invariant.2 c.next-p.ensures c.if-s-e.true in
+    record { laid = all.0; long = all.1 }
 
 pub put_slash-out-requires : goal.put_slash-out-requires
 put_slash-out-requires c =
@@ -31,7 +32,7 @@ put-out-requires c =
     let put-slash = c.put_slash-out in
     let args = c.args in
     let t = normal_turn _ _ _ _ _ _ _ _ loop.invariant.2 next.ensures if1.false in
-    let u = writing_more _ _ t pre _ _ put-slash.ensures in
+    let u = writing_more _ _ t pre _ _ (put-slash.ensures.laid, put-slash.ensures.behind) in
     let p = next.result in
     writing_room (take (p.stop - p.start) (drop p.start args.src.now)) _ u pre
 
@@ -44,6 +45,6 @@ loop-at-preserved c =
     let put-slash = c.put_slash-out in
     let put = c.put-out in
     let t = normal_turn _ _ _ _ _ _ _ _ loop.invariant.2 next.ensures if1.false in
-    let u = writing_more _ _ t pre _ _ put-slash.ensures in
-    let v = writing_more _ _ u pre _ _ put.ensures in
+    let u = writing_more _ _ t pre _ _ (put-slash.ensures.laid, put-slash.ensures.behind) in
+    let v = writing_more _ _ u pre _ _ (put.ensures.laid, put.ensures.behind) in
     (omega arith, writing_length v pre, v)

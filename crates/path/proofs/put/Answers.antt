@@ -16,4 +16,5 @@ loop-j-preserved c =
 
 pub returns : goal.returns
 returns c =
-    put_all _ _ _ _ _ c.loop-j.invariant.2 (omega arith)
+    let all = put_all _ _ _ _ _ c.loop-j.invariant.2 (omega arith) in
+    record { laid = all.0; behind = all.1 }

@@ -8,8 +8,10 @@ bounds-dst-at c =
 
 pub returns-then-sep : goal.returns-then-sep
 returns-then-sep c =
-    put_true _ _ _ c.if-sep.true (slash_room _ _ _ c.if-sep.true c.requires)
+    let all = put_true _ _ _ c.if-sep.true (slash_room _ _ _ c.if-sep.true c.requires) in
+    record { laid = all.0; behind = all.1 }
 
 pub returns : goal.returns
 returns c =
-    put_false _ _ _ c.if-sep.false
+    let all = put_false _ _ _ c.if-sep.false in
+    record { laid = all.0; behind = all.1 }

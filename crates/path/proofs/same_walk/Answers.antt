@@ -1,6 +1,5 @@
 -- The invariant: the answer is that for the fronts that are not yet passed. `same_on` passes the last component of both.
 use Rattle.std.proofs.Common.{sym, ◌∙◌, arith, length-take-le}
-use borrow.Author.Tests.{not-true, not-false}
 use Rattle.path.proofs.Backs.{same_start, part_inside, same_done, same_longer, same_shorter, same_differ, same_on}
 use Rattle.path.proofs.same_walk.Goals as goal
 
@@ -72,14 +71,14 @@ returns-then-not-same_bytes c =
     let if1 = c.if-ps-pe in
     let if3 = c.if-qs-qe-2 in
     same_differ _ _ _ _ _ _ _ _ loop.invariant.0 loop.invariant.1 last.ensures last2.ensures loop.invariant.2 if1.false if3.false
-    (sym c.same_bytes.ensures ∙ not-true _ c.if-not-same_bytes.true)
+    (sym c.same_bytes.ensures ∙ c.if-not-same_bytes.true)
 
 pub loop-i-smaller : goal.loop-i-smaller
 loop-i-smaller c =
     let last = c.last-p in
     let loop = c.loop-i in
     let if1 = c.if-ps-pe in
-    omega (arith, last.ensures.ordered, part_inside _ _ _ _ loop.inv.0 last.ensures, if1.false)
+    omega (arith, last.ensures.ordered, part_inside _ _ _ _ loop.invariant.0 last.ensures, if1.false)
 
 pub loop-i-preserved : goal.loop-i-preserved
 loop-i-preserved c =
@@ -95,5 +94,5 @@ loop-i-preserved c =
       omega (arith, x, p.ordered),
       omega (arith, y, q.ordered),
       same_on _ _ _ _ _ _ _ _ loop.invariant.0 loop.invariant.1 p q loop.invariant.2 if1.false if3.false
-          (sym c.same_bytes.ensures ∙ not-false _ c.if-not-same_bytes.false),
+          (sym c.same_bytes.ensures ∙ c.if-not-same_bytes.false),
     )

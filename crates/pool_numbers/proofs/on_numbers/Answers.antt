@@ -6,4 +6,4 @@ use Rattle.pool_numbers.proofs.on_numbers.Goals as goal
 pub through-requires : goal.through-requires
 through-requires c =
     let f = c.whole_rows in
-    sym f.ensures ∙ not-false f.result c.if-not-whole_rows.false
+    sym f.ensures ∙ c.if-not-whole_rows.false

@@ -1,7 +1,6 @@
 -- The invariant: what is left of the queue answers for all of it.
 use mathlib.Core.Path.{sym, ◌∙◌}
 use Prim.Native.Nat.{◌-◌}
-use borrow.Author.Tests.{not-true, not-false}
 use Rattle.lists.specs.Runs.{all_of, from_start, all_next, all_not, all_end}
 use Rattle.pool_test.specs.Test.{cell_ok}
 use Rattle.slot_rows.specs.Rows.{rows_of}
@@ -18,11 +17,11 @@ cell_ok-requires c =
 
 pub returns-then-not-cell_ok : goal.returns-then-not-cell_ok
 returns-then-not-cell_ok c =
-    sym (c.loop-k.invariant ∙ all_not _ _ _ (omega arith) (sym c.cell_ok.ensures ∙ not-true _ c.if-not-cell_ok.true))
+    sym (c.loop-k.invariant ∙ all_not _ _ _ (omega arith) (sym c.cell_ok.ensures ∙ c.if-not-cell_ok.true))
 
 pub loop-k-preserved : goal.loop-k-preserved
 loop-k-preserved c =
-    c.loop-k.invariant ∙ all_next _ _ _ (omega arith) (sym c.cell_ok.ensures ∙ not-false _ c.if-not-cell_ok.false)
+    c.loop-k.invariant ∙ all_next _ _ _ (omega arith) (sym c.cell_ok.ensures ∙ c.if-not-cell_ok.false)
 
 pub returns : goal.returns
 returns c =

@@ -1,7 +1,6 @@
 -- The invariant: what is left of the rows answers for all of them.
 use mathlib.Core.Path.{sym, ◌∙◌}
 use Prim.Native.Nat.{◌-◌}
-use borrow.Author.Tests.{not-true, not-false}
 use Rattle.lists.specs.Runs.{all_of, from_start, all_next, all_not, all_end}
 use Rattle.pool_test.specs.Test.{dir_fits}
 use native.Mathlib.Omega.{arith}
@@ -13,11 +12,11 @@ loop-j-init c =
 
 pub returns-then-not-dir_fits : goal.returns-then-not-dir_fits
 returns-then-not-dir_fits c =
-    sym (c.loop-j.invariant ∙ all_not _ _ _ (omega arith) (sym c.dir_fits.ensures ∙ not-true _ c.if-not-dir_fits.true))
+    sym (c.loop-j.invariant ∙ all_not _ _ _ (omega arith) (sym c.dir_fits.ensures ∙ c.if-not-dir_fits.true))
 
 pub loop-j-preserved : goal.loop-j-preserved
 loop-j-preserved c =
-    c.loop-j.invariant ∙ all_next _ _ _ (omega arith) (sym c.dir_fits.ensures ∙ not-false _ c.if-not-dir_fits.false)
+    c.loop-j.invariant ∙ all_next _ _ _ (omega arith) (sym c.dir_fits.ensures ∙ c.if-not-dir_fits.false)
 
 pub returns : goal.returns
 returns c =

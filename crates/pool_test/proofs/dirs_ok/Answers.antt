@@ -1,6 +1,5 @@
 -- The invariant: the directories below j are fine. If all are, they are those of a pool: `all_fine`.
 use Prim.Native.Nat.{◌-◌}
-use borrow.Author.Tests.{not-true, not-false}
 use Rattle.pool_test.specs.Keys.{Fine}
 use Rattle.pool_test.proofs.Upright.{judged_no, judged_yes, fine_more, all_fine}
 use native.Mathlib.Omega.{arith}
@@ -17,14 +16,14 @@ dir_ok-requires c =
 pub returns-then-not-dir_ok : goal.returns-then-not-dir_ok
 returns-then-not-dir_ok c =
     let args = c.args in
-    judged_no (Fine args.dirs.now args.m c.loop-j.j) args.dirs.now args.m c.dir_ok.result c.dir_ok.ensures (not-true _ c.if-not-dir_ok.true)
+    judged_no (Fine args.dirs.now args.m c.loop-j.j) args.dirs.now args.m c.dir_ok.result c.dir_ok.ensures (c.if-not-dir_ok.true)
 
 pub loop-j-preserved : goal.loop-j-preserved
 loop-j-preserved c =
     let args = c.args in
     let j = c.loop-j.j in
     fine_more args.dirs.now args.m j c.loop-j.invariant
-    (judged_yes (Fine args.dirs.now args.m j) args.dirs.now args.m c.dir_ok.result c.dir_ok.ensures (not-false _ c.if-not-dir_ok.false))
+    (judged_yes (Fine args.dirs.now args.m j) args.dirs.now args.m c.dir_ok.result c.dir_ok.ensures (c.if-not-dir_ok.false))
 
 pub returns : goal.returns
 returns c =

@@ -2,7 +2,6 @@
 use mathlib.Core.Path.{sym, ap, ◌∙◌}
 use Rattle.slot_rows.specs.Rows.{find, rows_of}
 use Rattle.slot_rows.proofs.InBuffers.{row_fits_lem, name_part}
-use borrow.Author.Tests.{not-true, not-false}
 use Rattle.pool_test.proofs.Filters.{first_unbound, first_bound, first_alone}
 use native.Mathlib.Omega.{arith}
 use Rattle.pool_test.proofs.first_ok.Goals as goal
@@ -13,7 +12,7 @@ is_bound-requires c =
 
 pub returns-then-not-is_bound : goal.returns-then-not-is_bound
 returns-then-not-is_bound c =
-    first_unbound _ _ (sym c.is_bound.ensures ∙ not-true _ c.if-not-is_bound.true)
+    first_unbound _ _ (sym c.is_bound.ensures ∙ c.if-not-is_bound.true)
 
 pub offset_bounds-keys-i : goal.offset_bounds-keys-i
 offset_bounds-keys-i c =
@@ -30,8 +29,8 @@ has_key-requires c =
 pub returns-then-not-has_key : goal.returns-then-not-has_key
 returns-then-not-has_key c =
     first_alone _ _ _ _ c.requires.1 c.requires.2
-    (sym c.is_bound.ensures ∙ not-false _ c.if-not-is_bound.false)
-    (sym c.has_key.ensures ∙ not-true _ c.if-not-has_key.true)
+    (sym c.is_bound.ensures ∙ c.if-not-is_bound.false)
+    (sym c.has_key.ensures ∙ c.if-not-has_key.true)
 
 pub path_len-k-requires : goal.path_len-k-requires
 path_len-k-requires c =
@@ -72,6 +71,6 @@ pub returns : goal.returns
 returns c =
     let rs = rows_of c.args.nums.now c.args.names.now c.args.n in
     first_bound rs c.args.i _
-    (sym c.is_bound.ensures ∙ not-false _ c.if-not-is_bound.false)
+    (sym c.is_bound.ensures ∙ c.if-not-is_bound.false)
     (c.find_row.ensures.row ∙ ap (λ (x : _). find x rs)
     (name_part _ _ _ _ c.requires.0 _ c.requires.2 _ c.path_len-k.ensures).1)

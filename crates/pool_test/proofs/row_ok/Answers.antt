@@ -1,7 +1,7 @@
 -- Each way out by what its tests say; the part lent is the path by `name_part`.
 use mathlib.Core.Path.{sym, ap, ◌∙◌}
 use lib.Dec.{ltb}
-use borrow.Author.Tests.{not-true, not-false, lt-ltb, le-ltb}
+use borrow.Author.Tests.{lt-ltb, le-ltb}
 use Rattle.text.specs.Text.{is_text}
 use Rattle.slot_rows.proofs.InBuffers.{row_fits_lem, name_part}
 use Rattle.pool_test.specs.Test.{row_ok}
@@ -56,7 +56,7 @@ returns-then-not-is_text c =
     c.if-c-row_generation.false)
     (and_no _ _ (ap is_text (sym
     (name_part _ _ _ _ c.requires.0 _ c.requires.2 _ c.path_len-k.ensures).1) ∙ sym
-    c.is_text.ensures ∙ not-true _ c.if-not-is_text.true))
+    c.is_text.ensures ∙ c.if-not-is_text.true))
 
 pub first_ok-requires : goal.first_ok-requires
 first_ok-requires c =
@@ -69,4 +69,4 @@ returns c =
     c.if-c-row_generation.false)
     (and_on _ _ _ (ap is_text
     (sym (name_part _ _ _ _ c.requires.0 _ c.requires.2 _ c.path_len-k.ensures).1) ∙ sym
-    c.is_text.ensures ∙ not-false _ c.if-not-is_text.false) c.first_ok.ensures)
+    c.is_text.ensures ∙ c.if-not-is_text.false) c.first_ok.ensures)

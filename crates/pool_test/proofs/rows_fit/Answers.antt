@@ -1,7 +1,6 @@
 -- The invariant: what is left of the rows answers for all of them.
 use mathlib.Core.Path.{sym, ◌∙◌}
 use Prim.Native.Nat.{◌-◌}
-use borrow.Author.Tests.{not-true, not-false}
 use Rattle.lists.specs.Runs.{all_of, from_start, all_next, all_not, all_end}
 use Rattle.pool_test.specs.Test.{row_fits}
 use native.Mathlib.Omega.{arith}
@@ -13,11 +12,11 @@ loop-i-init c =
 
 pub returns-then-not-row_fits : goal.returns-then-not-row_fits
 returns-then-not-row_fits c =
-    sym (c.loop-i.invariant ∙ all_not _ _ _ (omega arith) (sym c.row_fits.ensures ∙ not-true _ c.if-not-row_fits.true))
+    sym (c.loop-i.invariant ∙ all_not _ _ _ (omega arith) (sym c.row_fits.ensures ∙ c.if-not-row_fits.true))
 
 pub loop-i-preserved : goal.loop-i-preserved
 loop-i-preserved c =
-    c.loop-i.invariant ∙ all_next _ _ _ (omega arith) (sym c.row_fits.ensures ∙ not-false _ c.if-not-row_fits.false)
+    c.loop-i.invariant ∙ all_next _ _ _ (omega arith) (sym c.row_fits.ensures ∙ c.if-not-row_fits.false)
 
 pub returns : goal.returns
 returns c =

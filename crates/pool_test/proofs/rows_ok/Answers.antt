@@ -1,7 +1,6 @@
 -- The invariant: what is left of the rows answers for all of them.
 use mathlib.Core.Path.{sym, ◌∙◌}
 use Prim.Native.Nat.{◌-◌}
-use borrow.Author.Tests.{not-true, not-false}
 use Rattle.lists.specs.Runs.{all_of, from_start, all_next, all_not, all_end}
 use Rattle.pool_test.specs.Test.{row_ok}
 use Rattle.slot_rows.specs.Rows.{rows_of}
@@ -18,11 +17,11 @@ row_ok-requires c =
 
 pub returns-then-not-row_ok : goal.returns-then-not-row_ok
 returns-then-not-row_ok c =
-    sym (c.loop-i.invariant ∙ all_not _ _ _ (omega arith) (sym c.row_ok.ensures ∙ not-true _ c.if-not-row_ok.true))
+    sym (c.loop-i.invariant ∙ all_not _ _ _ (omega arith) (sym c.row_ok.ensures ∙ c.if-not-row_ok.true))
 
 pub loop-i-preserved : goal.loop-i-preserved
 loop-i-preserved c =
-    c.loop-i.invariant ∙ all_next _ _ _ (omega arith) (sym c.row_ok.ensures ∙ not-false _ c.if-not-row_ok.false)
+    c.loop-i.invariant ∙ all_next _ _ _ (omega arith) (sym c.row_ok.ensures ∙ c.if-not-row_ok.false)
 
 pub returns : goal.returns
 returns c =

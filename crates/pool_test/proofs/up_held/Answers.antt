@@ -1,7 +1,6 @@
 -- Carried by `tail_no`, `up_root`, `up_cut`, `up_one` and `up_find` of Upright.antt, a way out each.
 use mathlib.Core.Path.{sym}
 use lib.Seq.{length-take-le}
-use borrow.Author.Tests.{not-true, not-false}
 use Rattle.pool_test.proofs.Filters.{tail_inside}
 use Rattle.pool_test.proofs.Upright.{tail_no, up_root, up_cut, up_one, up_find, tail_told}
 use native.Mathlib.Omega.{arith}
@@ -26,13 +25,13 @@ slice_bounds-is_normal-end c =
 pub returns-then-not-is_normal : goal.returns-then-not-is_normal
 returns-then-not-is_normal c =
     tail_no _ _ _ c.requires.2 _ c.requires.3 _ _ c.tail_at-k.ensures
-    (tail_told c.args.x.now c.tail_at-k.result _ _ c.is_normal.ensures (not-true _ c.if-not-is_normal.true))
+    (tail_told c.args.x.now c.tail_at-k.result _ _ c.is_normal.ensures (c.if-not-is_normal.true))
 
 pub returns-then-e-eq0 : goal.returns-then-e-eq0
 returns-then-e-eq0 c =
     up_root _ _ _ c.requires.2 _ c.requires.3 _ _ c.tail_at-k.ensures c.above-e.ensures
     (tail_told c.args.x.now c.tail_at-k.result _ _ c.is_normal.ensures
-    (not-false _ c.if-not-is_normal.false)) c.if-e-eq0.true
+    (c.if-not-is_normal.false)) c.if-e-eq0.true
 
 pub slice_bounds-has_near-end : goal.slice_bounds-has_near-end
 slice_bounds-has_near-end c =
@@ -46,7 +45,7 @@ pub returns-then-e-k : goal.returns-then-e-k
 returns-then-e-k c =
     up_cut _ _ _ c.requires.2 _ c.requires.3 _ _ c.tail_at-k.ensures c.above-e.ensures
     (tail_told c.args.x.now c.tail_at-k.result _ _
-    c.is_normal.ensures (not-false _ c.if-not-is_normal.false))
+    c.is_normal.ensures (c.if-not-is_normal.false))
     c.if-e-eq0.false c.has_near.result c.if-e-k.true c.has_near.ensures
 
 pub slice_bounds-has_near-end-then-e-eq1 : goal.slice_bounds-has_near-end-then-e-eq1
@@ -61,7 +60,7 @@ pub returns-then-e-eq1 : goal.returns-then-e-eq1
 returns-then-e-eq1 c =
     up_one _ _ _ c.requires.2 _ c.requires.3 _ _ c.tail_at-k.ensures c.above-e.ensures
     (tail_told c.args.x.now c.tail_at-k.result _ _ c.is_normal.ensures
-    (not-false _ c.if-not-is_normal.false)) c.if-e-eq0.false
+    (c.if-not-is_normal.false)) c.if-e-eq0.false
     c.has_near-then-e-eq1.result c.if-e-eq1.true c.has_near-then-e-eq1.ensures
 
 pub slice_bounds-dir_find-end : goal.slice_bounds-dir_find-end
@@ -76,5 +75,5 @@ pub returns : goal.returns
 returns c =
     up_find _ _ _ c.requires.2 _ c.requires.3 _ _ c.tail_at-k.ensures c.above-e.ensures
     (tail_told c.args.x.now c.tail_at-k.result _ _ c.is_normal.ensures
-    (not-false _ c.if-not-is_normal.false)) c.if-e-eq0.false
+    (c.if-not-is_normal.false)) c.if-e-eq0.false
     c.dir_find.result c.if-e-k.false c.dir_find.ensures

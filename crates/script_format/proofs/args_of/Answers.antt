@@ -1,9 +1,9 @@
 -- One law for each way out: `args_short`, `args_first`, `args_second`, `args_whole`.
+use borrow.Author.Tests.{not-true, not-false}
 use mathlib.Core.Path.{◌∙◌, sym, subst, ◌≡◌}
 use mathlib.Core.Bool.{Bool}
 use Prim.Native.Nat.{ℕ, ◌≤◌, ◌<◌, ◌+◌}
 use lib.ListN.{length}
-use borrow.Author.Tests.{not-true, not-false}
 use Rattle.script_format.specs.declared.Span.{Span}
 use Rattle.script_format.specs.Reading.{small, span_if_inside, field_lt}
 use Rattle.script_format.proofs.Ways.{args_short, args_first, args_second, args_whole}
@@ -67,7 +67,7 @@ get_at-requires-2 c =
 
 pub overflow_cast-result : goal.overflow_cast-result
 overflow_cast-result c =
-    let m = small _ _ c.pre.1 in
+    let m = small _ _ c.requires.1 in
     let h = subst (λ (x : ℕ). x < 256) (sym c.get_at-2.ensures) (field_lt c.args.s.now (c.args.i + c.args.f.slot)
     c.args.f.flag 1 (λ j. omega (arith, c.shared_slice_known-1.given j)) m.flag) in
     omega (arith, h)

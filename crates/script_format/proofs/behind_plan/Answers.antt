@@ -1,19 +1,14 @@
 -- One law for each way out: `plan_cut`, `lengths_cut`, `setup_whole`.
+use borrow.Author.Tests.{not-true, not-false}
 use mathlib.Core.Path.{◌∙◌, ◌≡◌, sym, subst}
 use mathlib.Core.List.{List}
 use Prim.Native.Nat.{ℕ, ◌≤◌}
 use lib.ListN.{length}
-use borrow.Author.Tests.{not-true, not-false}
 use Rattle.script_format.specs.declared.Span.{Span}
 use Rattle.script_format.specs.Format.{span_at}
 use Rattle.script_format.specs.Reading.{span_inside}
 use Rattle.script_format.proofs.Ways.{plan_cut, lengths_cut, setup_whole}
 use native.Mathlib.Omega.{arith}
-use Rattle.script_format.proofs.behind_plan.Reads as reads
-use Rattle.script_format.proofs.behind_plan.Lts as lts
-use Rattle.le.proofs.get_at.Reads as get-at-reads
-use Rattle.script_format.proofs.no_setup.Reads as no-setup-reads
-use Rattle.script_format.proofs.run_at.Reads as run-at-reads
 use Rattle.script_format.proofs.behind_plan.Goals as goal
 
 ended : (s : List ℕ) (i : ℕ) (a : Span) → a ≡ span_at s i → a.to ≤ length s

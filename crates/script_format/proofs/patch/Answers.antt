@@ -1,18 +1,13 @@
 -- A turn of the loop is `patches_turn`: patching what is left gives the whole; `patches_stop` and `patches_end` are the ways out.
+use borrow.Author.Tests.{not-true, not-false}
 use mathlib.Core.Path.{◌∙◌, ◌≡◌, sym, ap, refl}
-use mathlib.Core.Bool.{true}
 use Prim.Native.Nat.{ℕ, suc, ◌+◌, ◌-◌}
 use native.Mathlib.Nat.{sub-zero}
-use borrow.Author.Tests.{not-true, not-false}
 use Rattle.script_format.specs.declared.Span.{Span}
 use Rattle.script_format.specs.Format.{patching, patched_m}
 use Rattle.script_format.specs.Reading.{patch_end}
 use Rattle.script_format.proofs.Ways.{patches_stop, patches_turn, patches_end}
 use native.Mathlib.Omega.{arith}
-use Rattle.script_format.proofs.patch.Reads as reads
-use Rattle.script_format.proofs.patch.Lts as lts
-use Rattle.script_format.proofs.no_span.Reads as no-span-reads
-use Rattle.script_format.proofs.patch_one.Reads as patch-one-reads
 use Rattle.script_format.proofs.patch.Goals as goal
 
 pub loop-k-init : goal.loop-k-init

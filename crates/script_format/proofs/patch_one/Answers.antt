@@ -1,19 +1,13 @@
 -- One law for each way out: `patch_short`, `patch_cut`, `patch_outside`, `patch_inside`.
+use borrow.Author.Tests.{not-true, not-false}
 use mathlib.Core.Path.{◌∙◌, ◌≡◌, sym, subst, ap}
 use mathlib.Core.List.{List}
 use Prim.Native.Nat.{ℕ, ◌<◌}
-use borrow.Author.Tests.{not-true, not-false}
 use Rattle.script_format.specs.declared.Span.{Span}
 use Rattle.script_format.specs.Format.{span_at, patching}
 use Rattle.script_format.specs.Reading.{Inside, span_inside, field_lt}
 use Rattle.script_format.proofs.Ways.{patch_short, patch_cut, patch_outside, patch_inside}
 use native.Mathlib.Omega.{arith}
-use Rattle.script_format.proofs.patch_one.Reads as reads
-use Rattle.script_format.proofs.patch_one.Lts as lts
-use Rattle.le.proofs.get_at.Reads as get-at-reads
-use Rattle.script_format.proofs.no_span.Reads as no-span-reads
-use Rattle.script_format.proofs.run_at.Reads as run-at-reads
-use Rattle.output.proofs.put_bytes.Reads as put-bytes-reads
 use Rattle.script_format.proofs.patch_one.Goals as goal
 
 in-script : (s : List ℕ) (i : ℕ) (a : Span) → a ≡ span_at s i → Inside s i a

@@ -1,16 +1,9 @@
 -- One law for each way out: `setup_long`, `setup_short`, `setup_other`, `setup_large`, `setup_fits`.
 use mathlib.Core.Path.{◌∙◌, sym, subst}
 use Prim.Native.Nat.{ℕ, ◌<◌}
-use borrow.Author.Tests.{not-true, not-false}
 use Rattle.script_format.specs.Reading.{field_lt}
 use Rattle.script_format.proofs.Ways.{setup_long, setup_short, setup_other, setup_large, setup_fits}
 use native.Mathlib.Omega.{arith}
-use Rattle.script_format.proofs.setup_at.Reads as reads
-use Rattle.script_format.proofs.setup_at.Lts as lts
-use Rattle.le.proofs.get_at.Reads as get-at-reads
-use Rattle.script_format.proofs.behind_plan.Reads as behind-plan-reads
-use Rattle.script_format.proofs.limits_ok.Reads as limits-ok-reads
-use Rattle.script_format.proofs.no_setup.Reads as no-setup-reads
 use Rattle.script_format.proofs.setup_at.Goals as goal
 
 pub returns-then-n-ge-LONGEST : goal.returns-then-n-ge-LONGEST
@@ -34,19 +27,18 @@ overflow_cast-rows c =
     omega (arith, c.shared_slice_known-1.given 2)
 
 pub limits_ok-requires : goal.limits_ok-requires
-limits_ok-requires c =
-    (
-      omega (arith, c.shared_slice_known-1.given 1),
-      subst (λ (k : ℕ). k < 4294967296) (sym c.get_at-size.ensures)
-          (field_lt c.args.s.now 5 4 4
-          (λ j. omega (arith, c.shared_slice_known-1.given j)) (omega arith)),
-    )
+limits_ok-requires c = (
+  omega (arith, c.shared_slice_known-1.given 1),
+  subst (λ (k : ℕ). k < 4294967296) (sym c.get_at-size.ensures)
+      (field_lt c.args.s.now 5 4 4
+      (λ j. omega (arith, c.shared_slice_known-1.given j)) (omega arith)),
+)
 
 pub returns-then-not-limits_ok : goal.returns-then-not-limits_ok
 returns-then-not-limits_ok c =
     c.no_setup-then-not-limits_ok.ensures ∙ setup_large _ c.if-n-ge-LONGEST.false c.if-n-lt9.false
     c.if-s-ne1.false _ _ c.get_at-dir_rows.ensures c.get_at-size.ensures _
-    c.limits_ok.ensures (not-true _ c.if-not-limits_ok.true)
+    c.limits_ok.ensures (c.if-not-limits_ok.true)
 
 pub behind_plan-requires : goal.behind_plan-requires
 behind_plan-requires c =
@@ -56,4 +48,4 @@ pub returns : goal.returns
 returns c =
     setup_fits _ c.if-n-ge-LONGEST.false c.if-n-lt9.false c.if-s-ne1.false _ _
     c.get_at-dir_rows.ensures c.get_at-size.ensures _
-    c.limits_ok.ensures _ (not-false _ c.if-not-limits_ok.false) c.behind_plan.ensures
+    c.limits_ok.ensures _ (c.if-not-limits_ok.false) c.behind_plan.ensures

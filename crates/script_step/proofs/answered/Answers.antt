@@ -12,6 +12,5 @@ put_answer-to-requires c =
 
 pub returns : goal.returns
 returns c =
-    let put = c.put_answer-to.ensures in
-    let out = shown c.args.out.now c.args.at in
-    (answered_is _ _ _ c.args.op _ _ c.args.buf.now out _ c.make-came.ensures put.0, put.1)
+    let put = (c.put_answer-to.ensures.answer, c.put_answer-to.ensures.few) in
+    let out = shown c.args.out.now c.args.at in record { op = answered_is _ _ _ c.args.op _ _ c.args.buf.now out _ c.make-came.ensures put.0; few = put.1 }

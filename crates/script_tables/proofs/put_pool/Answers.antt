@@ -150,15 +150,13 @@ returns c =
     let rows : List ℕ = cat (row_shown queue (rows_of c.args.nums.now c.args.names.now q.held))
     (range 0 q.held) in
     let ds : List ℕ = dirs_shown (dirs_of c.args.dirs.now q.dirs) in
-    let o = shown c.args.out.now c.args.at in (
-      pours_then _ ds o (pours_then _ queue o
+    let o = shown c.args.out.now c.args.at in record { pool = pours_then _ ds o (pours_then _ queue o
           (pours_then _ (le 1 q.free) o
           (pours_then _ rows o (pours_then (le 8 q.counter) (le 1 q.held) o c.put_le-a.ensures
           c.put_le-b.ensures) c.put_rows-c.ensures.rows) c.put_le-d.ensures)
           c.put_bytes-e.ensures) c.put_dirs.ensures.dirs
           ∙ ap (λ (t : List ℕ). pours t (shown c.args.out.now c.args.at))
-          (pool_is (bufs q c.args.nums.now c.args.names.now c.args.dirs.now) c.requires.0),
-      omega (
+          (pool_is (bufs q c.args.nums.now c.args.names.now c.args.dirs.now) c.requires.0); few = omega (
         arith,
         after_pours _ _ c.put_le-a.ensures,
         length_le 8 c.args.pool.counter,
@@ -173,5 +171,4 @@ returns c =
         few_free _ c.requires.0,
         after_pours _ _ c.put_bytes-e.ensures,
         c.put_dirs.ensures.few,
-      ),
-    )
+      ) }

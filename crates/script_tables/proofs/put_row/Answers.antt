@@ -87,8 +87,7 @@ returns c =
     let n = name_part _ _ _ _ c.requires.0 c.args.i c.requires.1 _ c.path_len-k.ensures in
     let rs = rows_of c.args.nums.now c.args.names.now c.args.n in
     let p : List ℕ = take (c.args.i * max_path + c.path_len-k.result - c.args.i * max_path)
-    (drop (c.args.i * max_path) c.args.names.now) in (
-      pours_then (le 1 c.marks-m.result)
+    (drop (c.args.i * max_path) c.args.names.now) in record { row = pours_then (le 1 c.marks-m.result)
           (le 8 c.row_generation-g.result ++ le 8 c.row_len-l.result ++ run_of p)
           (shown c.args.out.now c.args.at) c.put_le-a.ensures
           (pours_then (le 8 c.row_generation-g.result) (le 8 c.row_len-l.result ++ run_of p) _
@@ -97,8 +96,7 @@ returns c =
           c.put_run.ensures))
           ∙ ap (λ (t : List ℕ). pours t (shown c.args.out.now c.args.at))
           (row_is c.args.queue.now rs c.args.i _ _ _ p c.marks-m.ensures
-          c.row_generation-g.ensures c.row_len-l.ensures n.1),
-      omega (
+          c.row_generation-g.ensures c.row_len-l.ensures n.1); few = omega (
         arith,
         after_pours _ _ c.put_le-a.ensures,
         length_le 1 c.marks-m.result,
@@ -110,5 +108,4 @@ returns c =
         length_run p,
         ap length n.1,
         c.requires.0.short c.args.i,
-      ),
-    )
+      ) }

@@ -52,5 +52,4 @@ shape_of-out c =
 
 pub returns : goal.returns
 returns c =
-    let l = c.loop-i in
-    (cat_end _ c.args.spans.now l.i _ (omega arith) ∙ l.invariant.3, omega (arith, l.invariant.1))
+    let l = c.loop-i in record { runs = cat_end _ c.args.spans.now l.i _ (omega arith) ∙ l.invariant.3; few = omega (arith, l.invariant.1) }

@@ -6,24 +6,24 @@ use Rattle.slot_calls.proofs.refusal.Goals as goal
 
 pub returns-then-not-shape_ok : goal.returns-then-not-shape_ok
 returns-then-not-shape_ok c =
-    wrong_shape _ _ _ _ _ (sym c.shape_ok.ensures ∙ not-true c.shape_ok.result c.if-not-shape_ok.true)
+    wrong_shape _ _ _ _ _ (sym c.shape_ok.ensures ∙ c.if-not-shape_ok.true)
 
 pub returns-then-not-is_text : goal.returns-then-not-is_text
 returns-then-not-is_text c =
-    no_text_lem _ _ _ _ _ (sym c.shape_ok.ensures ∙ not-false c.shape_ok.result c.if-not-shape_ok.false) (sym
-    c.is_text.ensures ∙ not-true c.is_text.result c.if-not-is_text.true)
+    no_text_lem _ _ _ _ _ (sym c.shape_ok.ensures ∙ c.if-not-shape_ok.false) (sym
+    c.is_text.ensures ∙ c.if-not-is_text.true)
 
 pub returns-then-path-gt-MAX_PATH : goal.returns-then-path-gt-MAX_PATH
 returns-then-path-gt-MAX_PATH c =
-    too_long_lem _ _ _ _ _ (sym c.shape_ok.ensures ∙ not-false c.shape_ok.result c.if-not-shape_ok.false) (sym
-    c.is_text.ensures ∙ not-false c.is_text.result c.if-not-is_text.false) c.if-path-gt-MAX_PATH.true
+    too_long_lem _ _ _ _ _ (sym c.shape_ok.ensures ∙ c.if-not-shape_ok.false) (sym
+    c.is_text.ensures ∙ c.if-not-is_text.false) c.if-path-gt-MAX_PATH.true
 
 pub returns-then-phys-slot : goal.returns-then-phys-slot
 returns-then-phys-slot c =
-    out_of_range _ _ _ _ _ (sym c.shape_ok.ensures ∙ not-false c.shape_ok.result c.if-not-shape_ok.false) (sym
-    c.is_text.ensures ∙ not-false c.is_text.result c.if-not-is_text.false) c.if-path-gt-MAX_PATH.false c.if-phys-slot.true
+    out_of_range _ _ _ _ _ (sym c.shape_ok.ensures ∙ c.if-not-shape_ok.false) (sym
+    c.is_text.ensures ∙ c.if-not-is_text.false) c.if-path-gt-MAX_PATH.false c.if-phys-slot.true
 
 pub returns : goal.returns
 returns c =
-    not_refused _ _ _ _ _ (sym c.shape_ok.ensures ∙ not-false c.shape_ok.result c.if-not-shape_ok.false) (sym
-    c.is_text.ensures ∙ not-false c.is_text.result c.if-not-is_text.false) c.if-path-gt-MAX_PATH.false c.if-phys-slot.false
+    not_refused _ _ _ _ _ (sym c.shape_ok.ensures ∙ c.if-not-shape_ok.false) (sym
+    c.is_text.ensures ∙ c.if-not-is_text.false) c.if-path-gt-MAX_PATH.false c.if-phys-slot.false

@@ -21,6 +21,6 @@ put_padded-requires c =
 
 pub returns : goal.returns
 returns c =
-    let pre = c.requires in
-    bound_stored _ _ _ _ pre.0 _ pre.1 _ _ _ _ _ _ _ pre.2 c.mark.ensures
-    c.put_nums.ensures c.put_padded.ensures
+    let pre = c.requires in let all = bound_stored _ _ _ _ pre.0 _ pre.1 _ _ _ _ _ _ _ pre.2 c.mark.ensures
+    c.put_nums.ensures c.put_padded.ensures in
+    record { rows = all.0; flat = all.1 }

@@ -5,4 +5,4 @@ use Rattle.slot_rows.proofs.clean_row.Goals as goal
 pub returns : goal.returns
 unfolding cleaned
 returns c =
-    let s = c.set_row_len in (rw c.row_len-len.ensures at s.ensures.rows, s.ensures.flat)
+    let s = c.set_row_len in record { rows = rw c.row_len-len.ensures at s.ensures.rows; flat = s.ensures.flat }

@@ -4,5 +4,4 @@ use Rattle.slot_rows.proofs.clear_rows.Goals as goal
 
 pub returns : goal.returns
 returns c =
-    let a = c.args in
-    (zero_all a.nums.now _ c.zero_nums.ensures, zero_all a.names.now _ c.zero_in.ensures)
+    let a = c.args in record { nums = zero_all a.nums.now _ c.zero_nums.ensures; names = zero_all a.names.now _ c.zero_in.ensures }

@@ -25,5 +25,4 @@ loop-i-preserved c =
 
 pub returns : goal.returns
 returns c =
-    let w = c.loop-i in
-    (found_none _ _ _ _ w.invariant.1 (length_rows _ _ _) w.invariant.0 c.loop-i-test.false, omega arith)
+    let w = c.loop-i in record { row = found_none _ _ _ _ w.invariant.1 (length_rows _ _ _) w.invariant.0 c.loop-i-test.false; few = omega arith }

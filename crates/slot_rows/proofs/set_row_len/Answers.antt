@@ -38,5 +38,5 @@ bounds-nums-at-2 c =
 
 pub returns : goal.returns
 returns c =
-    let pre = c.requires in
-    resized_stored _ _ _ _ pre.0 _ pre.1 _ _ _ _ pre.2 c.mark.ensures refl
+    let pre = c.requires in let all = resized_stored _ _ _ _ pre.0 _ pre.1 _ _ _ _ pre.2 c.mark.ensures refl in
+    record { rows = all.0; flat = all.1 }

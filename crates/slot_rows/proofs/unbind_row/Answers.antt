@@ -21,5 +21,5 @@ zero_in-requires c =
 
 pub returns : goal.returns
 returns c =
-    let pre = c.requires in
-    unbound_stored _ _ _ _ pre.0 _ pre.1 _ _ _ c.put_nums.ensures c.zero_in.ensures
+    let pre = c.requires in let all = unbound_stored _ _ _ _ pre.0 _ pre.1 _ _ _ c.put_nums.ensures c.zero_in.ensures in
+    record { rows = all.0; flat = all.1 }
