@@ -2,11 +2,11 @@
 use Prim.Native.Nat.{ℕ, ◌*◌, ◌/◌, ◌≤◌, ◌<◌}
 use native.Mathlib.Omega.{arith}
 use mathlib.Core.Path.{◌≡◌, refl, sym, ap, ◌∙◌}
-use mathlib.Core.Bool.{Bool, true, false, not}
+use mathlib.Core.Bool.{Bool, true, false}
 use mathlib.Core.List.{List}
 use lib.Dec.{eqb, leb}
 use lib.ListN.{length}
-use borrow.Author.Tests.{le-leb, lt-leb, eq-eqb, ne_eqb, not-true, not-false}
+use borrow.Author.Tests.{le-leb, lt-leb, eq-eqb, ne_eqb}
 use Rattle.limits.specs.Limits.{max_path, row_width, dir_width}
 use Rattle.text.specs.Text.{is_text}
 use Rattle.device.specs.declared.Geometry.{Geometry}
@@ -104,40 +104,40 @@ module _ (g : Geometry) (c : Call) (one two : List ℕ) (l : Lent) (t : Takes) (
   row_mounts b h = ap (λ (x : Takes). x.mounts) (sym et) ∙ h
 
   module _ (m : t.mounts ≡ true) (u : Bool) (f : u ≡ shape_b g l.dev.bytes l.dev.phys) where
-    pub mount_shape : not u ≡ true → 2 ≡ no
+    pub mount_shape : u ≡ false → 2 ≡ no
     unfolding refusal_of mountable
-    mount_shape k = let z : shape_b g l.dev.bytes l.dev.phys ≡ false = sym f ∙ not-true u k in rw (row_mounts true m, z)
+    mount_shape k = let z : shape_b g l.dev.bytes l.dev.phys ≡ false = sym f ∙ k in rw (row_mounts true m, z)
 
-    module _ (k : not u ≡ false) (v : Bool) (h : v ≡ rows_b l.bufs.nums l.bufs.names l.bufs.dirs) where
+    module _ (k : u ≡ true) (v : Bool) (h : v ≡ rows_b l.bufs.nums l.bufs.names l.bufs.dirs) where
       abbrev goes : shape_b g l.dev.bytes l.dev.phys ≡ true
-      goes = sym f ∙ not-false u k
+      goes = sym f ∙ k
 
-      pub mount_rows : not v ≡ true → 2 ≡ no
+      pub mount_rows : v ≡ false → 2 ≡ no
       unfolding refusal_of mountable
       mount_rows i =
-          let z : rows_b l.bufs.nums l.bufs.names l.bufs.dirs ≡ false = sym h ∙ not-true v i in rw (row_mounts true m, goes, z)
+          let z : rows_b l.bufs.nums l.bufs.names l.bufs.dirs ≡ false = sym h ∙ i in rw (row_mounts true m, goes, z)
 
-      pub mount_none : not v ≡ false → 0 ≡ no
+      pub mount_none : v ≡ true → 0 ≡ no
       unfolding refusal_of mountable
       mount_none i =
-          let z : rows_b l.bufs.nums l.bufs.names l.bufs.dirs ≡ true = sym h ∙ not-false v i in rw (row_mounts true m, goes, z)
+          let z : rows_b l.bufs.nums l.bufs.names l.bufs.dirs ≡ true = sym h ∙ i in rw (row_mounts true m, goes, z)
 
   module _ (m : t.mounts ≡ false) (p : Bool) (e : p ≡ is_pool l.bufs) where
-    pub bars_record : not p ≡ true → 1 ≡ no
+    pub bars_record : p ≡ false → 1 ≡ no
     unfolding refusal_of
-    bars_record h = let z : is_pool l.bufs ≡ false = sym e ∙ not-true p h in rw (row_mounts false m, z)
+    bars_record h = let z : is_pool l.bufs ≡ false = sym e ∙ h in rw (row_mounts false m, z)
 
-    module _ (h : not p ≡ false) (u : Bool) (f : u ≡ shape_b g l.dev.bytes l.dev.phys) where
+    module _ (h : p ≡ true) (u : Bool) (f : u ≡ shape_b g l.dev.bytes l.dev.phys) where
       is : is_pool l.bufs ≡ true
-      is = sym e ∙ not-false p h
+      is = sym e ∙ h
 
-      pub bars_shape : not u ≡ true → 2 ≡ no
+      pub bars_shape : u ≡ false → 2 ≡ no
       unfolding refusal_of holds_pool
-      bars_shape k = let z : shape_b g l.dev.bytes l.dev.phys ≡ false = sym f ∙ not-true u k in rw (row_mounts false m, is, z)
+      bars_shape k = let z : shape_b g l.dev.bytes l.dev.phys ≡ false = sym f ∙ k in rw (row_mounts false m, is, z)
 
-      module _ (k : not u ≡ false) where
+      module _ (k : u ≡ true) where
         fits : shape_b g l.dev.bytes l.dev.phys ≡ true
-        fits = sym f ∙ not-false u k
+        fits = sym f ∙ k
 
         pub bars_few : length l.dev.phys < l.bufs.pool.held → 2 ≡ no
         unfolding refusal_of holds_pool
@@ -151,26 +151,26 @@ module _ (g : Geometry) (c : Call) (one two : List ℕ) (l : Lent) (t : Takes) (
           on_one : text_if (takes_of c).first one ≡ a
           on_one = ap (λ (x : Takes). text_if x.first one) (sym et) ∙ sym ea
 
-          pub bars_first : not a ≡ true → 3 ≡ no
+          pub bars_first : a ≡ false → 3 ≡ no
           unfolding refusal_of
-          bars_first y = let z : text_if (takes_of c).first one ≡ false = on_one ∙ not-true a y in rw (row_mounts false m, is, holds, z)
+          bars_first y = let z : text_if (takes_of c).first one ≡ false = on_one ∙ y in rw (row_mounts false m, is, holds, z)
 
-          module _ (y : not a ≡ false) (b : Bool) (eb : b ≡ text_if t.second two) where
+          module _ (y : a ≡ true) (b : Bool) (eb : b ≡ text_if t.second two) where
             on_two : text_if (takes_of c).second two ≡ b
             on_two = ap (λ (x : Takes). text_if x.second two) (sym et) ∙ sym eb
 
             first : text_if (takes_of c).first one ≡ true
-            first = on_one ∙ not-false a y
+            first = on_one ∙ y
 
-            pub bars_second : not b ≡ true → 3 ≡ no
+            pub bars_second : b ≡ false → 3 ≡ no
             unfolding refusal_of
             bars_second x =
-                let z : text_if (takes_of c).second two ≡ false = on_two ∙ not-true b x in rw (row_mounts false m, is, holds, first, z)
+                let z : text_if (takes_of c).second two ≡ false = on_two ∙ x in rw (row_mounts false m, is, holds, first, z)
 
-            pub bars_none : not b ≡ false → 0 ≡ no
+            pub bars_none : b ≡ true → 0 ≡ no
             unfolding refusal_of
             bars_none x =
-                let z : text_if (takes_of c).second two ≡ true = on_two ∙ not-false b x in rw (row_mounts false m, is, holds, first, z)
+                let z : text_if (takes_of c).second two ≡ true = on_two ∙ x in rw (row_mounts false m, is, holds, first, z)
 
 -- ---- a refusal
 

@@ -7,68 +7,69 @@ use Rattle.calls_gate.proofs.answer_of.Goals as goal
 pub returns-in-0 : goal.returns-in-0
 unfolding answer_of
 returns-in-0 c =
-    sym (ap answer_of c.in-0.keys1)
+    sym (ap answer_of c.in-0.is)
 
 pub returns-in-1 : goal.returns-in-1
 unfolding answer_of
 returns-in-1 c =
-    sym (ap answer_of c.in-1.keys2)
+    sym (ap answer_of c.in-1.is)
 
 pub returns-in-2 : goal.returns-in-2
 unfolding answer_of
 returns-in-2 c =
-    sym (ap answer_of c.in-2.keys3)
+    sym (ap answer_of c.in-2.is)
 
 pub returns-in-3 : goal.returns-in-3
 unfolding answer_of
 returns-in-3 c =
-    sym (ap answer_of c.in-3.keys4)
+    sym (ap answer_of c.in-3.is)
 
 pub returns-in-4 : goal.returns-in-4
 unfolding answer_of
 returns-in-4 c =
-    sym (ap answer_of c.in-4.keys5)
+    sym (ap answer_of c.in-4.is)
 
 pub returns-in-5 : goal.returns-in-5
 unfolding answer_of
 returns-in-5 c =
-    sym (ap answer_of c.in-5.keys6)
+    sym (ap answer_of c.in-5.is)
 
 pub returns-in-6 : goal.returns-in-6
 unfolding answer_of
 returns-in-6 c =
-    sym (ap answer_of c.in-6.keys7)
+    sym (ap answer_of c.in-6.is)
 
 pub returns-in-7 : goal.returns-in-7
 unfolding answer_of
 returns-in-7 c =
-    sym (ap answer_of c.in-7.keys8)
+    sym (ap answer_of c.in-7.is)
 
 pub returns-in-8 : goal.returns-in-8
 unfolding answer_of
 returns-in-8 c =
-    sym (ap answer_of c.in-8.keys9)
+    sym (ap answer_of c.in-8.is)
 
 pub returns-in-9 : goal.returns-in-9
 unfolding answer_of
 returns-in-9 c =
-    sym (ap answer_of c.in-9.keys10)
+    sym (ap answer_of c.in-9.is)
 
 pub returns-in-10 : goal.returns-in-10
 unfolding answer_of
 returns-in-10 c =
-    sym (ap answer_of c.in-10.keys11)
+    sym (ap answer_of c.in-10.is)
 
 pub returns-in-11 : goal.returns-in-11
 unfolding answer_of
 returns-in-11 c =
-    sym (ap answer_of c.in-11.keys12)
+    sym (ap answer_of c.in-11.is)
 
 pub returns-in-12 : goal.returns-in-12
 unfolding answer_of
 returns-in-12 c =
-    sym (ap answer_of c.in-12.keys13)
+    sym (ap answer_of c.in-12.is)
 
 pub returns-in_default : goal.returns-in_default
 returns-in_default c =
-    none_before _ c.in_default.rest.0.0.0.0.0.0.0.0.0.0.0.0.1 c.in_default.rest.0.0.0.0.0.0.0.0.0.0.0.1 c.in_default.rest.0.0.0.0.0.0.0.0.0.0.1 c.in_default.rest.0.0.0.0.0.0.0.0.0.1 c.in_default.rest.0.0.0.0.0.0.0.0.1 c.in_default.rest.0.0.0.0.0.0.0.1 c.in_default.rest.0.0.0.0.0.0.1 c.in_default.rest.0.0.0.0.0.1 c.in_default.rest.0.0.0.0.1 c.in_default.rest.0.0.0.1 c.in_default.rest.0.0.1 c.in_default.rest.0.1 c.in_default.rest.1
+    let n = c.in_default in
+    none_before _ n.not-0 n.not-1 n.not-2 n.not-3 n.not-4 n.not-5 n.not-6 n.not-7 n.not-8 n.not-9 n.not-10 n.not-11 n.not-12

@@ -9,13 +9,13 @@ pub returns-then-not-shape_ok : goal.returns-then-not-shape_ok
 returns-then-not-shape_ok c =
     mount_shape _ _ _ _ (lent (dev c.args.bytes.now c.args.phys.now c.args.place)
     (bufs c.args.pool c.args.nums.now c.args.names.now c.args.dirs.now)) _
-    c.Takes-of.ensures c.if-takes.true _ c.shape_ok.ensures c.if-not-shape_ok.true
+    c.takes_of-takes.ensures c.if-takes.true _ c.shape_ok.ensures c.if-not-shape_ok.true
 
 pub returns-then-not-rows_ok : goal.returns-then-not-rows_ok
 returns-then-not-rows_ok c =
     mount_rows _ _ _ _ (lent (dev c.args.bytes.now c.args.phys.now c.args.place)
     (bufs c.args.pool c.args.nums.now c.args.names.now c.args.dirs.now)) _
-    c.Takes-of.ensures c.if-takes.true _
+    c.takes_of-takes.ensures c.if-takes.true _
     c.shape_ok.ensures c.if-not-shape_ok.false _ c.rows_ok.ensures
     c.if-not-rows_ok.true
 
@@ -23,20 +23,20 @@ pub returns-then-takes : goal.returns-then-takes
 returns-then-takes c =
     mount_none _ _ _ _ (lent (dev c.args.bytes.now c.args.phys.now c.args.place)
     (bufs c.args.pool c.args.nums.now c.args.names.now c.args.dirs.now)) _
-    c.Takes-of.ensures c.if-takes.true _
+    c.takes_of-takes.ensures c.if-takes.true _
     c.shape_ok.ensures c.if-not-shape_ok.false _ c.rows_ok.ensures c.if-not-rows_ok.false
 
 pub returns-then-not-pool_ok : goal.returns-then-not-pool_ok
 returns-then-not-pool_ok c =
     bars_record _ _ _ _ (lent (dev c.args.bytes.now c.args.phys.now c.args.place)
     (bufs c.args.pool c.args.nums.now c.args.names.now c.args.dirs.now)) _
-    c.Takes-of.ensures c.if-takes.false _ c.pool_ok.ensures c.if-not-pool_ok.true
+    c.takes_of-takes.ensures c.if-takes.false _ c.pool_ok.ensures c.if-not-pool_ok.true
 
 pub returns-then-not-shape_ok-2 : goal.returns-then-not-shape_ok-2
 returns-then-not-shape_ok-2 c =
     bars_shape _ _ _ _ (lent (dev c.args.bytes.now c.args.phys.now c.args.place)
     (bufs c.args.pool c.args.nums.now c.args.names.now c.args.dirs.now)) _
-    c.Takes-of.ensures c.if-takes.false _
+    c.takes_of-takes.ensures c.if-takes.false _
     c.pool_ok.ensures c.if-not-pool_ok.false _ c.shape_ok-2.ensures
     c.if-not-shape_ok-2.true
 
@@ -44,7 +44,7 @@ pub returns-then-phys-pool : goal.returns-then-phys-pool
 returns-then-phys-pool c =
     bars_few _ _ _ _ (lent (dev c.args.bytes.now c.args.phys.now c.args.place)
     (bufs c.args.pool c.args.nums.now c.args.names.now c.args.dirs.now)) _
-    c.Takes-of.ensures c.if-takes.false _
+    c.takes_of-takes.ensures c.if-takes.false _
     c.pool_ok.ensures c.if-not-pool_ok.false _
     c.shape_ok-2.ensures c.if-not-shape_ok-2.false c.if-phys-pool.true
 
@@ -52,7 +52,7 @@ pub returns-then-not-path_ok : goal.returns-then-not-path_ok
 returns-then-not-path_ok c =
     bars_first _ _ _ _ (lent (dev c.args.bytes.now c.args.phys.now c.args.place)
     (bufs c.args.pool c.args.nums.now c.args.names.now c.args.dirs.now)) _
-    c.Takes-of.ensures c.if-takes.false _ c.pool_ok.ensures
+    c.takes_of-takes.ensures c.if-takes.false _ c.pool_ok.ensures
     c.if-not-pool_ok.false _
     c.shape_ok-2.ensures c.if-not-shape_ok-2.false
     c.if-phys-pool.false _ c.path_ok.ensures c.if-not-path_ok.true
@@ -61,7 +61,7 @@ pub returns-then-not-path_ok-2 : goal.returns-then-not-path_ok-2
 returns-then-not-path_ok-2 c =
     bars_second _ _ _ _ (lent (dev c.args.bytes.now c.args.phys.now c.args.place)
     (bufs c.args.pool c.args.nums.now c.args.names.now c.args.dirs.now)) _
-    c.Takes-of.ensures c.if-takes.false _ c.pool_ok.ensures
+    c.takes_of-takes.ensures c.if-takes.false _ c.pool_ok.ensures
     c.if-not-pool_ok.false _ c.shape_ok-2.ensures c.if-not-shape_ok-2.false
     c.if-phys-pool.false _ c.path_ok.ensures
     c.if-not-path_ok.false _ c.path_ok-2.ensures c.if-not-path_ok-2.true
@@ -70,7 +70,7 @@ pub returns : goal.returns
 returns c =
     bars_none _ _ _ _ (lent (dev c.args.bytes.now c.args.phys.now c.args.place)
     (bufs c.args.pool c.args.nums.now c.args.names.now c.args.dirs.now)) _
-    c.Takes-of.ensures c.if-takes.false _ c.pool_ok.ensures
+    c.takes_of-takes.ensures c.if-takes.false _ c.pool_ok.ensures
     c.if-not-pool_ok.false _ c.shape_ok-2.ensures c.if-not-shape_ok-2.false
     c.if-phys-pool.false _ c.path_ok.ensures
     c.if-not-path_ok.false _ c.path_ok-2.ensures c.if-not-path_ok-2.false

@@ -45,5 +45,4 @@ returns c =
     let if1 = c.if-normal_len-gt-MAX_PATH in
     let missing-path = c.missing_path-missing in
     let if2 = c.if-cap-m in
-    let d = (c.register_path.ensures.rows, c.register_path.ensures.flat) in
-    create_done _ _ pre _ normal-len.ensures if1.false _ missing-path.ensures (pool_dirs _ pre).few if2.false _ _ d.0 d.1
+    create_done _ _ pre _ normal-len.ensures if1.false _ missing-path.ensures (pool_dirs _ pre).few if2.false _ _ c.register_path.ensures.rows c.register_path.ensures.flat

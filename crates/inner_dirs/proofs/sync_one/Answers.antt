@@ -10,14 +10,12 @@ is_due-requires c =
 
 pub returns-then-not-is_due : goal.returns-then-not-is_due
 returns-then-not-is_due c =
-    let pre = (c.requires.ready, c.requires.i_lt_held) in
-    one_not _ _ _ _ _ pre.0.pool (sym c.is_due.ensures ∙ c.if-not-is_due.true)
+    one_not _ _ _ _ _ c.requires.ready.pool (sym c.is_due.ensures ∙ c.if-not-is_due.true)
 
 pub sync_row-put-requires : goal.sync_row-put-requires
 sync_row-put-requires c =
-    let pre = (c.requires.ready, c.requires.i_lt_held) in
     let is-due = c.is_due in
-    let if1 = c.if-not-is_due in record { ready = pre.0; i_lt_held = (pre.1, due_bound _ _ (sym is-due.ensures ∙ if1.false)) }
+    let if1 = c.if-not-is_due in record { ready = c.requires.ready; i_lt_held = (c.requires.i_lt_held, due_bound _ _ (sym is-due.ensures ∙ if1.false)) }
 
 pub returns : goal.returns
 returns c =

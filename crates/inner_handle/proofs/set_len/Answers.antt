@@ -1,7 +1,6 @@
 -- One law for each way out: `stale`, then `set_len_is` with `resize_stopped` and `resize_done`.
 use mathlib.Core.Path.{sym, ◌∙◌}
 use Rattle.pool_state.specs.InBuffers.{pool_rows}
-use borrow.Author.Tests.{not-false}
 use Rattle.inner_handle.specs.Handles.{set_len_m}
 use Rattle.inner_handle.proofs.Ways.{live_row, live_device, stale, resize_stopped, resize_done, set_len_is}
 use Rattle.inner_handle.proofs.set_len.Goals as goal
@@ -24,20 +23,17 @@ data_truncate-cut-requires c =
 
 pub returns-then-last-ne0 : goal.returns-then-last-ne0
 returns-then-last-ne0 c =
-    set_len_is _ _ _ _ _ (sym c.live.ensures ∙ not-false c.live.result
-    c.if-not-live.false) _ _
+    set_len_is _ _ _ _ _ (sym c.live.ensures ∙ c.if-not-live.false) _ _
     (resize_stopped _ _ c.requires _ _ _ _ c.data_truncate-cut.ensures.same c.if-last-ne0.true)
 
 pub set_row_len-requires : goal.set_row_len-requires
 set_row_len-requires c =
-    let held = live_row _ _ _ _ _ (sym c.live.ensures ∙ not-false c.live.result
-    c.if-not-live.false) in
+    let held = live_row _ _ _ _ _ (sym c.live.ensures ∙ c.if-not-live.false) in
     (pool_rows _ c.requires.pool, held.0, held.1)
 
 pub returns : goal.returns
 returns c =
     let e = sym c.live.ensures ∙ c.if-not-live.false in
-    let s = (c.set_row_len.ensures.rows, c.set_row_len.ensures.flat) in
     set_len_is _ _ _ _ _ e _ _
     (resize_done _ _ c.requires _ _ _ _ c.data_truncate-cut.ensures.same c.if-last-ne0.false
-    _ s.0 s.1)
+    _ c.set_row_len.ensures.rows c.set_row_len.ensures.flat)

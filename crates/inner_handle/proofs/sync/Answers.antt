@@ -1,7 +1,6 @@
 -- One law for each way out: `stale`, `sync_dirty`, `sync_clean`.
 use mathlib.Core.Path.{sym, ◌∙◌}
 use Rattle.pool_state.specs.InBuffers.{pool_rows}
-use borrow.Author.Tests.{not-false}
 use Rattle.inner_handle.specs.Handles.{sync_m}
 use Rattle.inner_handle.proofs.Ways.{live_row, stale, sync_dirty, sync_clean}
 use Rattle.inner_handle.proofs.sync.Goals as goal
@@ -30,8 +29,7 @@ sync_row-put-requires-clause-ready c =
 
 pub sync_row-put-requires-clause-i_lt_held : goal.sync_row-put-requires-clause-i_lt_held
 sync_row-put-requires-clause-i_lt_held c =
-    live_row _ _ _ _ _ (sym c.live.ensures ∙ not-false c.live.result
-          c.if-not-live.false)
+    live_row _ _ _ _ _ (sym c.live.ensures ∙ c.if-not-live.false)
 
 pub returns-then-is_dirty : goal.returns-then-is_dirty
 returns-then-is_dirty c =

@@ -3,7 +3,6 @@ use Prim.Native.Nat.{◌+◌, ◌≤◌}
 use lib.ListN.{length}
 use mathlib.Core.Path.{sym, ◌∙◌, refl}
 use Rattle.pool_state.specs.InBuffers.{pool_rows}
-use borrow.Author.Tests.{not-false}
 use native.Mathlib.Omega.{arith}
 use Rattle.inner_handle.specs.Handles.{write_at_m}
 use Rattle.inner_handle.proofs.Ways.{live_row, live_device, stale, resize_stopped, resize_done, write_inside, write_at_is}
@@ -50,15 +49,13 @@ overflow_add-end c =
 
 pub set_row_len-requires : goal.set_row_len-requires
 set_row_len-requires c =
-    let held = live_row _ _ _ _ _ (sym c.live.ensures ∙ not-false c.live.result
-    c.if-not-live.false) in
+    let held = live_row _ _ _ _ _ (sym c.live.ensures ∙ c.if-not-live.false) in
     (pool_rows _ c.requires.pool, held.0, held.1)
 
 pub returns : goal.returns
 returns c =
     let e = sym c.live.ensures ∙ c.if-not-live.false in
-    let s = (c.set_row_len.ensures.rows, c.set_row_len.ensures.flat) in
     write_at_is _ _ _ _ _ e _ _ _ _ _ c.row_len-len.ensures
     c.greater-reach.ensures
     (resize_done _ _ c.requires _ _ _ _ c.data_write-put.ensures.same c.if-last-ne0.false
-    _ s.0 s.1)
+    _ c.set_row_len.ensures.rows c.set_row_len.ensures.flat)

@@ -13,6 +13,4 @@ register_ancestors-requires c =
 
 pub returns : goal.returns
 returns c =
-    let r = (c.bind_row.ensures.rows, c.bind_row.ensures.flat) in
-    let d = (c.register_ancestors.ensures.rows, c.register_ancestors.ensures.flat) in
-    bind_is _ c.requires.pool.0 _ _ _ _ _ _ _ r.0 r.1 d.0 d.1
+    bind_is _ c.requires.pool.0 _ _ _ _ _ _ _ c.bind_row.ensures.rows c.bind_row.ensures.flat c.register_ancestors.ensures.rows c.register_ancestors.ensures.flat

@@ -23,21 +23,19 @@ push_free-requires c =
 
 pub returns-then-last-ne0 : goal.returns-then-last-ne0
 returns-then-last-ne0 c =
-    let p = (c.requires.ready, (c.requires.free_nonzero, c.requires.path_len_bound)) in
     answered _ _ _ _ _ _ _ _ c.refused.ensures
-    (create_stopped _ _ p.0 p.1.0.0 p.1.0.1 _ c.pop_free-popped.ensures _
+    (create_stopped _ _ c.requires.ready c.requires.free_nonzero.0 c.requires.free_nonzero.1 _ c.pop_free-popped.ensures _
     c.next_generation-spent.ensures _ _ _ c.data_truncate-cut.ensures.same
     c.if-last-ne0.true _ c.push_free.ensures)
 
 pub bind-made-requires : goal.bind-made-requires
 bind-made-requires c =
-    let p = (c.requires.ready, (c.requires.free_nonzero, c.requires.path_len_bound)) in let all = bind_ready _ _ p.0 p.1.0.0 p.1.0.1 _ c.pop_free-popped.ensures _
-    c.next_generation-spent.ensures _ p.1.0.2 p.1.1 in
+    let all = bind_ready _ _ c.requires.ready c.requires.free_nonzero.0 c.requires.free_nonzero.1 _ c.pop_free-popped.ensures _
+    c.next_generation-spent.ensures _ c.requires.free_nonzero.2 c.requires.path_len_bound in
     record { pool = all.0; path_len_bound = all.1 }
 
 pub returns : goal.returns
 returns c =
-    let p = (c.requires.ready, (c.requires.free_nonzero, c.requires.path_len_bound)) in
-    create_done _ _ p.0 p.1.0.0 p.1.0.1 _ c.pop_free-popped.ensures _
+    create_done _ _ c.requires.ready c.requires.free_nonzero.0 c.requires.free_nonzero.1 _ c.pop_free-popped.ensures _
     c.next_generation-spent.ensures _ _ _ c.data_truncate-cut.ensures.same
     c.if-last-ne0.false _ refl _ c.bind-made.ensures

@@ -33,6 +33,5 @@ set_row_len-requires c =
 
 pub returns : goal.returns
 returns c =
-    let s = (c.set_row_len.ensures.rows, c.set_row_len.ensures.flat) in
     reopen_done _ _ _ _ c.requires.ready.pool _ c.if-keep.false _
-    c.data_truncate-cut.ensures.same c.if-last-ne0.false _ c.row_generation-generation.ensures _ s.0 s.1
+    c.data_truncate-cut.ensures.same c.if-last-ne0.false _ c.row_generation-generation.ensures _ c.set_row_len.ensures.rows c.set_row_len.ensures.flat

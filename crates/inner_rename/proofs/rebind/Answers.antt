@@ -28,7 +28,6 @@ set_row_len-requires c =
 
 pub returns : goal.returns
 returns c =
-    let s = (c.set_row_len.ensures.rows, c.set_row_len.ensures.flat) in
     rebind_stopped _ _ c.requires.ready _ _ _ _ c.row_len-len.ensures _
     c.bound-header.ensures _ c.put_header-put.ensures.same _
-    c.next_generation-spent.ensures c.if-last-eq0.false _ s.0 s.1
+    c.next_generation-spent.ensures c.if-last-eq0.false _ c.set_row_len.ensures.rows c.set_row_len.ensures.flat

@@ -12,23 +12,19 @@ vacate-freed-requires-clause-fact c =
 
 pub bind_row-requires : goal.bind_row-requires
 bind_row-requires c =
-    let p = (c.requires.ready, (c.requires.fact, c.requires.i_lt_held)) in
-    row_ready _ _ p.0 _ _ _ _ p.1.0 p.1.1.0 p.1.1.1 p.1.1.2 _ _ _ _ c.vacate-freed.ensures
+    row_ready _ _ c.requires.ready _ _ _ _ c.requires.fact c.requires.i_lt_held.0 c.requires.i_lt_held.1 c.requires.i_lt_held.2 _ _ _ _ c.vacate-freed.ensures
 
 pub returns-then-last-ne0 : goal.returns-then-last-ne0
 returns-then-last-ne0 c =
-    let p = (c.requires.ready, (c.requires.fact, c.requires.i_lt_held)) in
-    let r = (c.bind_row.ensures.rows, c.bind_row.ensures.flat) in
-    settle_stopped _ _ p.0 _ _ _ _ p.1.0 p.1.1.0 p.1.1.1 p.1.1.2 _ _ _ _ c.vacate-freed.ensures _ _
-    c.if-last-ne0.true _ _ r.0 r.1
+    settle_stopped _ _ c.requires.ready _ _ _ _ c.requires.fact c.requires.i_lt_held.0 c.requires.i_lt_held.1 c.requires.i_lt_held.2 _ _ _ _ c.vacate-freed.ensures _ _
+    c.if-last-ne0.true _ _ c.bind_row.ensures.rows c.bind_row.ensures.flat
 
 pub bind-made-requires : goal.bind-made-requires
 bind-made-requires c =
-    let p = (c.requires.ready, (c.requires.fact, c.requires.i_lt_held)) in let all = bind_ready _ _ p.0 _ _ _ _ p.1.0 p.1.1.0 p.1.1.1 p.1.1.2 _ _ _ _ c.vacate-freed.ensures in
+    let all = bind_ready _ _ c.requires.ready _ _ _ _ c.requires.fact c.requires.i_lt_held.0 c.requires.i_lt_held.1 c.requires.i_lt_held.2 _ _ _ _ c.vacate-freed.ensures in
     record { pool = all.0; path_len_bound = all.1 }
 
 pub returns : goal.returns
 returns c =
-    let p = (c.requires.ready, (c.requires.fact, c.requires.i_lt_held)) in
-    settle_done _ _ p.0 _ _ _ _ p.1.0 p.1.1.0 p.1.1.1 p.1.1.2 _ _ _ _ c.vacate-freed.ensures _ _
+    settle_done _ _ c.requires.ready _ _ _ _ c.requires.fact c.requires.i_lt_held.0 c.requires.i_lt_held.1 c.requires.i_lt_held.2 _ _ _ _ c.vacate-freed.ensures _ _
     c.if-last-ne0.false _ c.bind-made.ensures

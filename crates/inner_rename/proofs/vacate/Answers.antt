@@ -8,8 +8,7 @@ returns-then-n-j c =
 
 pub release-requires : goal.release-requires
 release-requires c =
-    let p = (c.requires.ready, c.requires.fact) in
-    let h = c.if-n-j.false in record { ready = p.0; slot_lt_held = (h, (p.1 h).0, (p.1 h).1) }
+    let h = c.if-n-j.false in record { ready = c.requires.ready; slot_lt_held = (h, (c.requires.fact h).0, (c.requires.fact h).1) }
 
 pub returns : goal.returns
 returns c =
