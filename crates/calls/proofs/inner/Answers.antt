@@ -99,7 +99,8 @@ on_path-requires-clause-passed c =
 
 pub on_path-requires-clause-path : goal.on_path-requires-clause-path
 on_path-requires-clause-path c =
-    is_on_path c.args.call c.in_default.keys8
+    let n = c.in_default in
+    is_on_path _ n.not-Mount n.not-Adopt n.not-ReadAt n.not-WriteAt n.not-SetLen n.not-FileLen n.not-Sync
 
 pub returns-in_default : goal.returns-in_default
 returns-in_default c =
