@@ -13,6 +13,9 @@ use device::{Geometry, Place};
 use header::{Decoded, Header};
 use pool_state::Pool;
 
+// Standard output's number at the C library.
+const STDOUT_FILENO: i32 = 1;
+
 // What a slot's header block says.
 #[derive(Clone, Copy)]
 enum Says {

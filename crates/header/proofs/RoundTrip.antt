@@ -13,7 +13,7 @@ use Rattle.le.specs.Le.{le, field, Bytes}
 use Rattle.le.proofs.Fields.{unle_le, unle_lt, bytes_take, bytes_drop, field_back}
 use Rattle.le.proofs.Parts.{glue}
 use Rattle.text.specs.Text.{is_text, none}
-use Rattle.text.specs.Grammar.{text_complete}
+use Rattle.text.proofs.Grammar.{text_complete}
 use Rattle.header.specs.Block.{block_len, max_path, header_of, free_header, flags_of, in_use, fixed, encoded, path_of, decoded}
 use Rattle.header.proofs.BlockLaws.{length_fixed, found}
 use Rattle.header.specs.RoundTrip.{Fits, Table, ZeroTail, Layout, DecodeEncode, EncodeDecode, EncodeOneOutcome, DecodeOneOutcome, CutShortDecodes, CutFreeDecodes}

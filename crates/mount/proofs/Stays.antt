@@ -13,7 +13,7 @@ use Rattle.limits.specs.Limits.{last_counter}
 use Rattle.lists.specs.Distinct.{In, Distinct, snoc_in}
 use Rattle.lists.specs.Distinct.Distinct.{none, more}
 use Rattle.text.specs.Text as Text
-use Rattle.text.specs.Grammar.{text_complete}
+use Rattle.text.proofs.Grammar.{text_complete}
 use Rattle.device.specs.declared.Place.{Place}
 use Rattle.device.specs.declared.Geometry.{Geometry}
 use Rattle.device.specs.Device.{Dev, Shape}

@@ -13,7 +13,7 @@ use Rattle.limits.specs.Limits.{max_path}
 use Rattle.lists.specs.Distinct.{In, Distinct, snoc_in, distinct_snoc}
 use Rattle.text.specs.Text.{is_text}
 use Rattle.text.specs.Text as Text
-use Rattle.text.specs.Grammar.{text_complete}
+use Rattle.text.proofs.Grammar.{text_complete}
 use Rattle.path.specs.Path.{components, same_path, ancestors}
 use Rattle.path.specs.Theorems.{same_path_lem, normal_short}
 use Rattle.header.specs.declared.Header.{Header}

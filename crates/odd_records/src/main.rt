@@ -10,6 +10,9 @@ use calls_gate::{Call, Reply};
 use device::{Geometry, Place};
 use pool_state::Pool;
 
+// Standard output's number at the C library.
+const STDOUT_FILENO: i32 = 1;
+
 // ---- what is lent
 
 // How many cells of each buffer are lent.

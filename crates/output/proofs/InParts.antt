@@ -1,12 +1,12 @@
 -- Laws of output: what is put out in parts is put out as a whole.
-use Prim.Native.Nat.{ℕ, zero, suc, ◌+◌, ◌<◌, ◌≤◌}
+use Prim.Native.Nat.{ℕ, suc, ◌+◌, ◌<◌, ◌≤◌}
 use mathlib.Core.Path.{◌≡◌, refl, sym, ap, ap₂, ◌∙◌}
 use mathlib.Core.List.{List, [], ◌∷◌, ◌++◌}
 use native.Mathlib.Numerals.{add-one}
 use native.Mathlib.Nat.{add-zero, zero-add}
 use native.Mathlib.Omega.{arith}
-use lib.ListN.{length, get_or, take, drop, set, length-append, length-set, drop_of_length-le}
-use lib.Seq.{sets, take-nil, drop-nil, length-sets, drop-cons}
+use lib.ListN.{length, get_or, take, drop, set, length-append, drop_of_length-le}
+use lib.Seq.{sets, drop-nil, length-sets, drop-cons}
 use Rattle.lists.specs.Blocks.{cat, sets_append}
 use Rattle.output.specs.Writer.{Shown, shown, pours, poured}
 

@@ -8,7 +8,7 @@ use Rattle.limits.specs.Limits.{max_path}
 use Rattle.lists.specs.Distinct.{In}
 use Rattle.text.specs.Text.{is_text}
 use Rattle.text.specs.Text as Text
-use Rattle.text.specs.Grammar.{text_complete}
+use Rattle.text.proofs.Grammar.{text_complete}
 use Rattle.path.specs.Path.{components}
 use Rattle.slot_rows.specs.Rows.{Row, unbound, none, at, is_bound, path_of, gen_of, resized, rows_of, Flat}
 use Rattle.slot_rows.proofs.InBuffers.{resized_bound, resized_path, resized_gen}

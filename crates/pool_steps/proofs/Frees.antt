@@ -9,7 +9,7 @@ use lib.Dec.{ltb, lit<, lit≤}
 use lib.ListN.{length, take, drop, length-append, length-take, length-drop}
 use borrow.Author.Tests.{eq-eqb, ltb-true, ltb-false}
 use Rattle.text.specs.Text.{none}
-use Rattle.text.specs.Grammar.{text_complete}
+use Rattle.text.proofs.Grammar.{text_complete}
 use Rattle.header.specs.declared.Decoded.TheVariants.{Found}
 use Rattle.header.specs.Block.{free_header, decoded}
 use Rattle.header.proofs.BlockLaws.{short_absent}

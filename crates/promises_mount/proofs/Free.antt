@@ -10,7 +10,7 @@ use mathlib.Core.List.{List, [], ◌++◌}
 use lib.ListN.{length, take, drop, length-take, length-drop, length-append}
 use Rattle.limits.specs.Limits.{last_counter}
 use Rattle.text.specs.Text.{none}
-use Rattle.text.specs.Grammar.{text_complete}
+use Rattle.text.proofs.Grammar.{text_complete}
 use Rattle.header.specs.Block.{free_header, decoded}
 use Rattle.header.specs.RoundTrip.{Fits}
 use Rattle.header.proofs.RoundTrip.{decode_encode, cut_free_decodes}

@@ -3,6 +3,10 @@
 // many scripts there were. What it prints can't be said in a contract, and is compared with the file stdout.
 #![tactic(auto)]
 
+// Standard input's and standard output's numbers at the C library.
+const STDIN_FILENO: i32 = 0;
+
+const STDOUT_FILENO: i32 = 1;
 
 // How many entries were replayed, how many of them differ, and whether there may be more.
 #[derive(Clone, Copy)]

@@ -1,24 +1,24 @@
 -- One law for each way out of the readers, and the turns of their loops.
 use Prim.Native.Nat.{ℕ, zero, suc, ◌+◌, ◌-◌, ◌*◌, ◌^◌, ◌<◌, ◌≤◌}
-use mathlib.Core.Path.{◌≡◌, refl, sym, ap, ap₂, ◌∙◌}
-use mathlib.Core.Bool.{Bool, true, false, cond, ◌&&◌, false≢true}
+use mathlib.Core.Path.{◌≡◌, refl, ap, ◌∙◌}
+use mathlib.Core.Bool.{Bool, true, false}
 use mathlib.Core.List.{List, [], ◌∷◌, ◌++◌}
 use native.Mathlib.Omega.{arith}
 use native.Mathlib.Numerals.{add-one}
 use borrow.Author.Tests.{le-leb, lt-leb, lt-ltb, le-ltb, eq-eqb, ne_eqb}
-use lib.Dec.{eqb, leb, ltb}
-use lib.ListN.{length, get_or, take, drop, set}
-use lib.Seq.{sets, take-suc-set, append_snoc}
+use lib.Dec.{leb}
+use lib.ListN.{length, get_or, take, set}
+use lib.Seq.{take-suc-set, append_snoc}
 use Rattle.lists.specs.Runs.{tab, tab_more}
-use Rattle.le.specs.Le.{field, Bytes}
+use Rattle.le.specs.Le.{field}
 use Rattle.output.specs.Writer.{Shown, shown, pours}
 use Rattle.script_format.specs.declared.Span.{Span}
 use Rattle.script_format.specs.declared.Form.{Form}
 use Rattle.script_format.specs.declared.Op.{Op}
 use Rattle.script_format.specs.declared.Setup.{Setup}
-use Rattle.script_format.specs.Format.{span, no_span, span_at, span_if, run_in, row, forms, last_code, form_of, no_form, is_code, no_op, op_of}
+use Rattle.script_format.specs.Format.{span, no_span, span_at, span_if, run_in, row, last_code, form_of, no_form, is_code, no_op, op_of}
 use Rattle.script_format.specs.Reading.{behind_last}
-use Rattle.script_format.specs.Format.{generation_at, runs_at, args_of, op_at, limits_ok, no_setup, behind_plan, setup_at, length_at, Patching, patching, placed, patch_at, patched_m}
+use Rattle.script_format.specs.Format.{generation_at, runs_at, args_of, op_at, limits_ok, no_setup, behind_plan, setup_at, length_at, patching, placed, patch_at, patched_m}
 
 -- ---- runs
 

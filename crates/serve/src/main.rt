@@ -6,6 +6,10 @@
 
 ghost use Rattle.std.specs.Prelude.{◌≡◌, length};
 
+// Standard input's and standard output's numbers at the C library.
+const STDIN_FILENO: i32 = 0;
+
+const STDOUT_FILENO: i32 = 1;
 
 fn main() {
     let mut request = room();

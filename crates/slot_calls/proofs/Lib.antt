@@ -2,7 +2,5 @@
 
 -- What is refused, way by way, and what a call that is let through may rely on; over plain values.
 pub mod Ways
--- What the walks of this crate share: a step that owns a byte for nothing.
-pub mod Parts
 -- The statements of specs/SlotOutcomes.antt.
 pub mod Outcomes

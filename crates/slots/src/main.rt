@@ -12,6 +12,10 @@ ghost use Rattle.slots.specs.Room.{RoomAt, AnswerWaits};
 use calls_gate::Call;
 use device::Place;
 use pool_state::Pool;
+use std::io::{Read, Stdin};
+
+// Standard output's number at the C library.
+const STDOUT_FILENO: i32 = 1;
 
 // No answer is longer (`answers_fit`): a dump has at most 4 files and 8 directories.
 const ROOM: usize = 8192;
@@ -27,7 +31,7 @@ struct Progress {
     at: usize,
 }
 
-fn main() {
+fn main(rt: HostRuntime) {
     let mut bytes = io::buffer();
     let mut phys = [0u64; 4];
     let mut nums = [0u64; 16];
@@ -48,7 +52,14 @@ fn main() {
     let place = mounted.place;
     let pool = mounted.pool;
     serve(
-        &mut bytes, &mut phys, place, &mut nums, &mut names, &mut dirs, pool,
+        &mut bytes,
+        &mut phys,
+        place,
+        &mut nums,
+        &mut names,
+        &mut dirs,
+        pool,
+        rt.stdin(),
     );
 }
 
@@ -82,6 +93,7 @@ fn serve(
     names: &mut [u8],
     dirs: &mut [u8],
     pool: Pool,
+    stdin: Stdin,
 ) {
     let mut line = line_buffer();
     let mut input = io::large_buffer();
@@ -94,7 +106,7 @@ fn serve(
         at: 0,
     };
     answer_all(
-        bytes, phys, nums, names, dirs, run, &mut line, &mut input, &mut out,
+        bytes, phys, nums, names, dirs, run, &mut line, &mut input, &mut out, stdin,
     );
 }
 
@@ -110,13 +122,15 @@ fn answer_all(
     line: &mut [u8],
     input: &mut [u8],
     out: &mut [u8],
+    stdin: Stdin,
 )
     requires { InBuffers (length line.old) (length out.old) run }
 {
+    let mut from = stdin;
     let mut r = run;
     let mut turns = u64::MAX;
     while 0 < turns {
-        let n = io::count(libc::read(STDIN_FILENO, input), input);
+        let n = read_some(&mut from, input);
         if n == 0 {
             break;
         }
@@ -124,6 +138,16 @@ fn answer_all(
         turns -= 1;
     }
     answer_last(bytes, phys, nums, names, dirs, r, line, out);
+}
+
+// Reads what there is, as far as the block reaches, and gives how many bytes that is. A read that fails counts as the end of the input.
+fn read_some(from: &mut Stdin, input: &mut [u8]) -> usize
+    ensures { result ≤ length input.new }
+{
+    match from.read(input) {
+        Ok(n) => n,
+        Err(_) => 0,
+    }
 }
 
 // Answers the lines that end in a block, holds the one that does not, and writes the answers.

@@ -8,6 +8,9 @@ ghost use Rattle.std.specs.Prelude.{◌≤◌};
 
 use header::{Decoded, Header};
 
+// Standard output's number at the C library.
+const STDOUT_FILENO: i32 = 1;
+
 fn main() {
     others();
     words();

@@ -7,7 +7,7 @@ use Rattle.inner_list.specs.Listing.{is_child}
 use Rattle.inner_list.proofs.child_files.Given as goal
 
 abbrev pub invariant-loop-i : goal.invariant-loop-i
-invariant-loop-i l = Picking (file_span (rows_of l.nums l.names l.n)) (λ (l.i : ℕ). is_child l.dir (at (rows_of l.nums l.names l.n) l.i)) l.n l.initial.spans l.i l.count l.spans
+invariant-loop-i l = Picking (file_span (rows_of l.nums l.names l.n)) (λ (i : ℕ). is_child l.dir (at (rows_of l.nums l.names l.n) i)) l.n l.initial.spans l.i l.count l.spans
 
 abbrev pub decreases-loop-i : goal.decreases-loop-i
 decreases-loop-i l = l.n - l.i

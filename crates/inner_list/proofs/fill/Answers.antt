@@ -16,5 +16,5 @@ pub returns : goal.returns
 returns c =
     let p = both_put _ _ _ _ _ _ c.args.buf.now c.requires.0 c.requires.1 c.sort.ensures
     c.sort-2.ensures c.requires.2 _ _ (c.put_entries-at.ensures.end, c.put_entries-at.ensures.written) _ _
-    (c.put_entries.ensures.end, c.put_entries.ensures.written) in let all = (p.0, (c.sort.ensures, (c.sort-2.ensures, p.1))) in
-    record { size = all.0; first = all.1.0; second = all.1.1.0; written = all.1.1.1 }
+    (c.put_entries.ensures.end, c.put_entries.ensures.written) in
+    record { size = p.0; first = c.sort.ensures; second = c.sort-2.ensures; written = p.1 }

@@ -9,21 +9,6 @@ use mathlib.Core.Path.{sym, ◌∙◌, ◌≡◌}
 use Rattle.inner_list.proofs.Outs.{files_front, folders_front, dirs_lent, files_ready, dirs_ready, size_low, not_held, too_small, fill_ready, done, Front}
 use Rattle.inner_list.proofs.read_dir.Goals as goal
 
--- where the call started, as the picks see it; that the path is held; and the picks
-abbrev start : tie.After-child-files → tie.Start
-start c =
-    let after-start-2 = c.before.before.before.before.before.before.before in
-    after-start-2.before.before
-
-found : (c : tie.After-child-files) → has_path (dirs_of (start c).args.dirs.now (start c).args.pool.dirs) (start c).args.path.now ≡ true
-found c = sym c.before.before.before.dir-find.ensures ∙ c.before.before.if1.false
-
-files : (c : tie.After-child-files) → Front (child_files (start c).args.path.now (rows_of (start c).args.nums.now (start c).args.names.now (start c).args.pool.held)) c.child_files_lem.result c.child_files_lem.new.1.1.1.1.1.0
-files c = files_front _ (start c).requires _ _ _ c.child_files_lem.ensures
-
-folders : (c : tie.After-child-dirs) → Front (child_dirs (start c.before.before.before).args.path.now (dirs_of (start c.before.before.before).args.dirs.now (start c.before.before.before).args.pool.dirs)) c.child_dirs_lem.result c.child_dirs_lem.new.1.1.1.0
-folders c = folders_front _ (start c.before.before.before).requires _ _ _ c.child_dirs_lem.ensures
-
 pub dir_find-requires : goal.dir_find-requires
 dir_find-requires c =
     dirs_lent _ c.requires c.args.path.now
@@ -42,61 +27,72 @@ child_dirs-d-requires c =
 
 pub slice_bounds-files-end : goal.slice_bounds-files-end
 slice_bounds-files-end c =
-    (files «After-child_files»).fits
+    let f = files_front _ c.requires c.args.path.now _ _ (c.child_files-f.ensures.count, c.child_files-f.ensures.picked) in
+    f.fits
 
 pub slice_bounds-size_of-end : goal.slice_bounds-size_of-end
 slice_bounds-size_of-end c =
-    (files «After-child_files»).long
+    let f = files_front _ c.requires c.args.path.now _ _ (c.child_files-f.ensures.count, c.child_files-f.ensures.picked) in
+    f.long
 
 pub size_of-requires : goal.size_of-requires
 size_of-requires c =
-    (files «After-child_files»).few
+    let f = files_front _ c.requires c.args.path.now _ _ (c.child_files-f.ensures.count, c.child_files-f.ensures.picked) in
+    f.few
 
 pub slice_bounds-folders-end : goal.slice_bounds-folders-end
 slice_bounds-folders-end c =
-    (folders «After-child_dirs»).fits
+    let d = folders_front _ c.requires c.args.path.now _ _ (c.child_dirs-d.ensures.count, c.child_dirs-d.ensures.picked) in
+    d.fits
 
 pub slice_bounds-size_of-end-2 : goal.slice_bounds-size_of-end-2
 slice_bounds-size_of-end-2 c =
-    (folders «After-child_dirs»).long
+    let d = folders_front _ c.requires c.args.path.now _ _ (c.child_dirs-d.ensures.count, c.child_dirs-d.ensures.picked) in
+    d.long
 
 pub size_of-requires-2 : goal.size_of-requires-2
 size_of-requires-2 c =
-    (folders «After-child_dirs»).few
+    let d = folders_front _ c.requires c.args.path.now _ _ (c.child_dirs-d.ensures.count, c.child_dirs-d.ensures.picked) in
+    d.few
 
 pub overflow_add-size : goal.overflow_add-size
 overflow_add-size c =
-    omega (
-  arith,
-  (size_low _ _ (files («After-child_files»)).few c.type_size.ensures),
-  size_low _ _ (folders «After-child_dirs»).few c.size_of-2.ensures,
-
-)
+    let f = files_front _ c.requires c.args.path.now _ _ (c.child_files-f.ensures.count, c.child_files-f.ensures.picked) in
+    let d = folders_front _ c.requires c.args.path.now _ _ (c.child_dirs-d.ensures.count, c.child_dirs-d.ensures.picked) in
+    omega (arith, size_low _ _ f.few c.size_of.ensures, size_low _ _ d.few c.size_of-2.ensures)
 
 pub returns-then-buf-size : goal.returns-then-buf-size
 returns-then-buf-size c =
-    too_small _ c.requires _ c.args.buf.now (found «After-child_files») _ _ _ _ (files «After-child_files») (folders «After-child_dirs») _ _ c.type_size.ensures
+    let f = files_front _ c.requires c.args.path.now _ _ (c.child_files-f.ensures.count, c.child_files-f.ensures.picked) in
+    let d = folders_front _ c.requires c.args.path.now _ _ (c.child_dirs-d.ensures.count, c.child_dirs-d.ensures.picked) in
+    too_small _ c.requires _ c.args.buf.now (sym c.dir_find.ensures ∙ c.if-not-dir_find.false) _ _ _ _ f d _ _ c.size_of.ensures
     c.size_of-2.ensures c.if-buf-size.true
 
 pub slice_bounds-files-end-2 : goal.slice_bounds-files-end-2
 slice_bounds-files-end-2 c =
-    (files «After-child_files»).fits
+    let f = files_front _ c.requires c.args.path.now _ _ (c.child_files-f.ensures.count, c.child_files-f.ensures.picked) in
+    f.fits
 
 pub slice_bounds-fill-end : goal.slice_bounds-fill-end
 slice_bounds-fill-end c =
-    (files «After-child_files»).long
+    let f = files_front _ c.requires c.args.path.now _ _ (c.child_files-f.ensures.count, c.child_files-f.ensures.picked) in
+    f.long
 
 pub slice_bounds-folders-end-2 : goal.slice_bounds-folders-end-2
 slice_bounds-folders-end-2 c =
-    (folders «After-child_dirs»).fits
+    let d = folders_front _ c.requires c.args.path.now _ _ (c.child_dirs-d.ensures.count, c.child_dirs-d.ensures.picked) in
+    d.fits
 
 pub slice_bounds-fill-end-2 : goal.slice_bounds-fill-end-2
 slice_bounds-fill-end-2 c =
-    (folders «After-child_dirs»).long
+    let d = folders_front _ c.requires c.args.path.now _ _ (c.child_dirs-d.ensures.count, c.child_dirs-d.ensures.picked) in
+    d.long
 
 pub fill-end-requires : goal.fill-end-requires
 fill-end-requires c =
-    fill_ready _ c.requires _ c.args.buf.now (found «After-child_files») _ _ _ _ (files «After-child_files») (folders «After-child_dirs») _ _ c.type_size.ensures
+    let f = files_front _ c.requires c.args.path.now _ _ (c.child_files-f.ensures.count, c.child_files-f.ensures.picked) in
+    let d = folders_front _ c.requires c.args.path.now _ _ (c.child_dirs-d.ensures.count, c.child_dirs-d.ensures.picked) in
+    fill_ready _ c.requires _ c.args.buf.now (sym c.dir_find.ensures ∙ c.if-not-dir_find.false) _ _ _ _ f d _ _ c.size_of.ensures
     c.size_of-2.ensures c.if-buf-size.false
 
 pub shape_of-buf : goal.shape_of-buf
@@ -105,5 +101,7 @@ shape_of-buf c =
 
 pub returns : goal.returns
 returns c =
-    done _ c.requires _ c.args.buf.now (found «After-child_files») _ _ _ _ (files «After-child_files») (folders «After-child_dirs») _ _ c.type_size.ensures
+    let f = files_front _ c.requires c.args.path.now _ _ (c.child_files-f.ensures.count, c.child_files-f.ensures.picked) in
+    let d = folders_front _ c.requires c.args.path.now _ _ (c.child_dirs-d.ensures.count, c.child_dirs-d.ensures.picked) in
+    done _ c.requires _ c.args.buf.now (sym c.dir_find.ensures ∙ c.if-not-dir_find.false) _ _ _ _ f d _ _ c.size_of.ensures
     c.size_of-2.ensures _ _ c.if-buf-size.false c.fill-end.ensures.size c.fill-end.ensures.written

@@ -13,7 +13,7 @@ loop-i-init c =
 
 pub release-s-requires : goal.release-s-requires
 release-s-requires c =
-    let w : (length c.args.t10 ≡ 64) = search rules in let all = draining_first _ _ c.args.t10 _ _ _ _ c.loop-i.invariant.1 (omega arith)
+    let w : (length c.args.losers ≡ 64) = search rules in let all = draining_first _ _ c.args.losers _ _ _ _ c.loop-i.invariant.1 (omega arith)
     c.loop-i-test.true in
     record { ready = all.0; slot_lt_held = all.1 }
 
@@ -37,11 +37,11 @@ loop-i-smaller c =
 
 pub loop-i-preserved : goal.loop-i-preserved
 loop-i-preserved c =
-    let w : (length c.args.t10 ≡ 64) = search (
+    let w : (length c.args.losers ≡ 64) = search (
       rules,
       (c.well_formed),
     ) in
-    let d = draining_more _ _ c.args.t10 _ _ _ _ c.loop-i.invariant.1 (omega (arith, c.requires.count_bound.0))
+    let d = draining_more _ _ c.args.losers _ _ _ _ c.loop-i.invariant.1 (omega (arith, c.requires.count_bound.0))
     c.loop-i-test.true _ c.release-s.ensures in (
       omega (arith, c.loop-i-test.true),
       d,
@@ -69,6 +69,6 @@ shape_of-names c =
 
 pub returns : goal.returns
 returns c =
-    let w : (length c.args.t10 ≡ 64) = search rules in
-    draining_done _ _ c.args.t10 c.args.count _ _ c.loop-i.i c.loop-i.invariant.1 (omega arith)
+    let w : (length c.args.losers ≡ 64) = search rules in
+    draining_done _ _ c.args.losers c.args.count _ _ c.loop-i.i c.loop-i.invariant.1 (omega arith)
     (omega arith)

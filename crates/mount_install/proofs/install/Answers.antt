@@ -5,5 +5,8 @@ use Rattle.mount_install.proofs.install.Goals as goal
 
 pub returns : goal.returns
 returns c =
-    let all = (ap (holding c.args.m c.args.dirs c.args.counter) c.queue_spares-r.ensures, (c.unbind_losers.ensures.rows, c.unbind_losers.ensures.flat)) in
-    record { pool = all.0; rows = all.1.0; flat = all.1.1 }
+    record {
+      pool = ap (holding c.args.m c.args.dirs c.args.counter) c.queue_spares-r.ensures;
+      rows = c.unbind_losers.ensures.rows;
+      flat = c.unbind_losers.ensures.flat;
+    }

@@ -14,13 +14,12 @@ loop-i-init c =
 
 pub unbind_row-requires : goal.unbind_row-requires
 unbind_row-requires c =
-    let w : length c.args.t5 ≡ 64 = search rules in
+    let w : length c.args.losers ≡ 64 = search rules in
     (c.loop-i.invariant.1, c.requires.2 _ (list_in _ _ _ c.loop-i-test.true (omega arith)))
 
 pub loop-i-preserved : goal.loop-i-preserved
 loop-i-preserved c =
-    let w : (length c.args.t5 ≡ 64) = search rules in
-    (
+    let w : (length c.args.losers ≡ 64) = search rules in (
       omega arith,
       c.unbind_row.ensures.flat,
       vacated_more _ _ _ _ _ _ c.loop-i-test.true
@@ -37,5 +36,8 @@ shape_of-names c =
 
 pub returns : goal.returns
 returns c =
-    let w : length c.args.t5 ≡ 64 = search rules in record { rows = vacated_done c.args.t5 c.args.count c.loop-i.i _ _ (omega arith) (omega arith)
-          c.loop-i.invariant.2; flat = c.loop-i.invariant.1 }
+    let w : length c.args.losers ≡ 64 = search rules in record {
+      rows = vacated_done c.args.losers c.args.count c.loop-i.i _ _ (omega arith) (omega arith)
+          c.loop-i.invariant.2;
+      flat = c.loop-i.invariant.1;
+    }

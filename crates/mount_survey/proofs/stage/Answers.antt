@@ -16,8 +16,7 @@ loop-i-init c =
 
 pub stage_slot-s-requires : goal.stage_slot-s-requires
 stage_slot-s-requires c =
-    let pre = (c.requires.shape, c.requires.k_bound) in
-    let loop-test = c.loop-i-test in record { shape = (pre.0.0, c.loop-i.invariant.flat); i_lt_cap = (omega (arith, pre.1.0, loop-test.true), omega (arith, pre.1.1, loop-test.true)) }
+    let loop-test = c.loop-i-test in record { shape = (c.requires.shape.0, c.loop-i.invariant.flat); i_lt_cap = (omega (arith, c.requires.k_bound.0, loop-test.true), omega (arith, c.requires.k_bound.1, loop-test.true)) }
 
 pub unstage-requires : goal.unstage-requires
 unstage-requires c =

@@ -7,19 +7,17 @@ use Rattle.mount_survey.proofs.stage_slot.Goals as goal
 
 pub returns-then-last-eq10 : goal.returns-then-last-eq10
 returns-then-last-eq10 c =
-    let pre = (c.requires.shape, c.requires.i_lt_cap) in
     let zeros = c.zeros-block in
-    let header_read = c.header_read-got in let all = slot_failed _ _ _ _ _ _ _ _ pre.0.1 pre.1.0 _ (place_is _ _ _ _ _ _ _ zeros.ensures header_read.ensures)
+    let header_read = c.header_read-got in let all = slot_failed _ _ _ _ _ _ _ _ c.requires.shape.1 c.requires.i_lt_cap.0 _ (place_is _ _ _ _ _ _ _ zeros.ensures header_read.ensures)
     (read_failed _ _ _ _ _ _ _ zeros.ensures header_read.ensures c.if-last-eq10.true) in
     record { place = all.0; failed = all.1.0; asked = all.1.1.0; rows = all.1.1.1.0; flat = all.1.1.1.1.0; kept = all.1.1.1.1.1 }
 
 pub returns-in_default : goal.returns-in_default
 returns-in_default c =
-    let pre = (c.requires.shape, c.requires.i_lt_cap) in
     let r = c.header_read-got.ensures in
-    let z = c.zeros-block.ensures in let all = slot_absent _ _ _ _ _ _ _ _ pre.0.1 pre.1.0 _ (place_is _ _ _ _ _ _ _ z r)
+    let z = c.zeros-block.ensures in let all = slot_absent _ _ _ _ _ _ _ _ c.requires.shape.1 c.requires.i_lt_cap.0 _ (place_is _ _ _ _ _ _ _ z r)
     (read_done _ _ _ _ _ _ _ z r c.if-last-eq10.false)
-    (head_absent _ _ _ c.decode.ensures _ (said _ _ _ _ _ _ _ z r) c.enum_told-1.given.1) in
+    (head_absent _ _ _ c.decode.ensures _ (said _ _ _ _ _ _ _ z r) c.in_default.is) in
     record { place = all.0; failed = all.1.0; asked = all.1.1.0; rows = all.1.1.1.0; flat = all.1.1.1.1.0; kept = all.1.1.1.1.1 }
 
 pub overflow_add-end : goal.overflow_add-end
@@ -31,21 +29,19 @@ slice_bounds-bind_row-end c =
     omega (arith, path_fits _ _ _ c.decode.ensures _ c.in-Found.is, block_long _ _ _ _ _ _ _ c.zeros-block.ensures c.header_read-got.ensures)
 
 pub bind_row-requires : goal.bind_row-requires
-bind_row-requires c =
-    let pre = (c.requires.shape, c.requires.i_lt_cap) in (
-      (rows_grow _ _ 1 _ _ pre.0.1 (omega (arith, pre.1.0))).1,
-      omega arith,
-      part_short _ _ _ c.decode.ensures _ c.in-Found.is,
-    )
+bind_row-requires c = (
+  (rows_grow _ _ 1 _ _ c.requires.shape.1 (omega (arith, c.requires.i_lt_cap.0))).1,
+  omega arith,
+  part_short _ _ _ c.decode.ensures _ c.in-Found.is,
+)
 
 pub returns-then-is_claim : goal.returns-then-is_claim
 returns-then-is_claim c =
-    let pre = (c.requires.shape, c.requires.i_lt_cap) in
     let bind-row = c.bind_row in
     let r = c.header_read-got.ensures in
     let z = c.zeros-block.ensures in
     let t = sym c.if-is_claim.true
-    ∙ c.is_claim.ensures in let all = slot_claim _ _ _ _ _ _ _ _ pre.0.1 pre.1.0 _ (place_is _ _ _ _ _ _ _ z r) _ _ _ _ _ _
+    ∙ c.is_claim.ensures in let all = slot_claim _ _ _ _ _ _ _ _ c.requires.shape.1 c.requires.i_lt_cap.0 _ (place_is _ _ _ _ _ _ _ z r) _ _ _ _ _ _
     (read_done _ _ _ _ _ _ _ z r c.if-last-eq10.false) c.raised-more.ensures
     (head_claim _ _ _ c.decode.ensures _ c.in-Found.is _ (said _ _ _ _ _ _ _ z r) t)
     bind-row.ensures.rows bind-row.ensures.flat in
@@ -53,10 +49,9 @@ returns-then-is_claim c =
 
 pub returns : goal.returns
 returns c =
-    let pre = (c.requires.shape, c.requires.i_lt_cap) in
     let r = c.header_read-got.ensures in
     let z = c.zeros-block.ensures in
-    let t = sym c.if-is_claim.false ∙ c.is_claim.ensures in let all = slot_idle _ _ _ _ _ _ _ _ pre.0.1 pre.1.0 _ (place_is _ _ _ _ _ _ _ z r) _ _
+    let t = sym c.if-is_claim.false ∙ c.is_claim.ensures in let all = slot_idle _ _ _ _ _ _ _ _ c.requires.shape.1 c.requires.i_lt_cap.0 _ (place_is _ _ _ _ _ _ _ z r) _ _
     (read_done _ _ _ _ _ _ _ z r c.if-last-eq10.false) c.raised-more.ensures
     (head_idle _ _ _ c.decode.ensures _ c.in-Found.is _ (said _ _ _ _ _ _ _ z r) t) in
     record { place = all.0; failed = all.1.0; asked = all.1.1.0; rows = all.1.1.1.0; flat = all.1.1.1.1.0; kept = all.1.1.1.1.1 }

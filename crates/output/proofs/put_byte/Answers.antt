@@ -4,8 +4,6 @@ use mathlib.Core.List.{List}
 use mathlib.Core.Path.{refl, sym, ap}
 use lib.Seq.{set_out}
 use Rattle.output.specs.Writer.{shown, pours}
-use Rattle.output.proofs.put_byte.Reads as reads
-use Rattle.output.proofs.put_byte.Lts as lts
 use Rattle.output.proofs.put_byte.Goals as goal
 
 pub returns-then-at-out : goal.returns-then-at-out

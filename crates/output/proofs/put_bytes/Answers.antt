@@ -1,5 +1,5 @@
 -- A turn of the loop is `pours_byte`: the bytes still to be put out make the whole run.
-use Prim.Native.Nat.{ℕ, ◌+◌, ◌-◌}
+use Prim.Native.Nat.{ℕ, ◌+◌}
 use mathlib.Core.Path.{◌≡◌, refl, sym, ap, ◌∙◌}
 use mathlib.Core.List.{List, ◌∷◌}
 use lib.ListN.{get_or, drop, drop_of_length-le}
@@ -8,9 +8,6 @@ use native.Mathlib.Numerals.{add-one}
 use Rattle.output.specs.Writer.{shown, pours}
 use Rattle.output.proofs.InParts.{pours_none, pours_byte, after_pours}
 use native.Mathlib.Omega.{arith}
-use Rattle.output.proofs.put_bytes.Reads as reads
-use Rattle.output.proofs.put_bytes.Lts as lts
-use Rattle.output.proofs.put_byte.Reads as put-byte-reads
 use Rattle.output.proofs.put_bytes.Goals as goal
 
 pub loop-i-init : goal.loop-i-init

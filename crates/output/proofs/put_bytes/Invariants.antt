@@ -3,9 +3,6 @@ use Prim.Native.Nat.{◌+◌, ◌-◌, ◌≤◌}
 use mathlib.Core.Path.{◌≡◌}
 use lib.ListN.{length, drop}
 use Rattle.output.specs.Writer.{shown, pours}
-use Rattle.output.proofs.put_bytes.Reads as reads
-use Rattle.output.proofs.put_bytes.Lts as lts
-use Rattle.output.proofs.put_byte.Reads as put-byte-reads
 use Rattle.output.proofs.put_bytes.Given as goal
 
 abbrev pub invariant-loop-i : goal.invariant-loop-i

@@ -6,9 +6,6 @@ use Rattle.le.specs.Le.{le}
 use Rattle.output.specs.Writer.{shown, pours}
 use Rattle.output.proofs.InParts.{pours_none, pours_byte, after_pours}
 use native.Mathlib.Omega.{arith}
-use Rattle.output.proofs.put_le.Reads as reads
-use Rattle.output.proofs.put_le.Lts as lts
-use Rattle.output.proofs.put_byte.Reads as put-byte-reads
 use Rattle.output.proofs.put_le.Goals as goal
 
 pub loop-i-init : goal.loop-i-init

@@ -4,9 +4,6 @@ use mathlib.Core.Path.{◌≡◌}
 use lib.ListN.{length}
 use Rattle.le.specs.Le.{le}
 use Rattle.output.specs.Writer.{shown, pours}
-use Rattle.output.proofs.put_le.Reads as reads
-use Rattle.output.proofs.put_le.Lts as lts
-use Rattle.output.proofs.put_byte.Reads as put-byte-reads
 use Rattle.output.proofs.put_le.Given as goal
 
 abbrev pub invariant-loop-i : goal.invariant-loop-i

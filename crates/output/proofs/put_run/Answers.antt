@@ -5,10 +5,6 @@ use Rattle.le.proofs.Fields.{length_le}
 use Rattle.output.specs.Writer.{run_of}
 use Rattle.output.proofs.InParts.{after_pours, pours_then}
 use native.Mathlib.Omega.{arith}
-use Rattle.output.proofs.put_run.Reads as reads
-use Rattle.output.proofs.put_run.Lts as lts
-use Rattle.output.proofs.put_bytes.Reads as put-bytes-reads
-use Rattle.output.proofs.put_le.Reads as put-le-reads
 use Rattle.output.proofs.put_run.Goals as goal
 
 pub put_bytes-requires : goal.put_bytes-requires

@@ -1,5 +1,5 @@
 -- At a mount `zero_in` zeroes all of a buffer; else both stay.
-use mathlib.Core.Path.{refl, ap, ◌∙◌}
+use Rattle.std.proofs.Common.{refl, ap, ◌∙◌}
 use Rattle.mount.proofs.Mounting.{zeroed}
 use Rattle.calls_gate.specs.declared.Answer.TheVariants.{WrongShape}
 use Rattle.calls_gate.specs.Replies.{silently}
@@ -8,11 +8,14 @@ use Rattle.pool.proofs.too_many.Goals as goal
 
 pub returns-then-takes : goal.returns-then-takes
 returns-then-takes c =
-    let m = mounts_is _ _ _ c.Takes-of.ensures c.if-takes.true in (
-      chosen _ _ _ _ m (c.silent.ensures ∙ ap (silently WrongShape c.args.place) c.zero-zero.ensures),
-      (chosen _ _ _ _ m (zeroed c.args.names.now _ _ _ refl refl c.zero_in.ensures), chosen _ _ _ _ m (zeroed c.args.dirs.now _ _ _ refl refl c.zero_in-then-takes.ensures)),
-    )
+    let m = mounts_is _ _ _ c.takes_of-takes.ensures c.if-takes.true in
+    record {
+      reply = chosen _ _ _ _ m (c.silent.ensures ∙ ap (silently WrongShape c.args.place) c.zero-zero.ensures);
+      names = chosen _ _ _ _ m (zeroed c.args.names.now _ _ _ refl refl c.zero_in.ensures);
+      dirs = chosen _ _ _ _ m (zeroed c.args.dirs.now _ _ _ refl refl c.zero_in-then-takes.ensures);
+    }
 
 pub returns : goal.returns
 returns c =
-    let m = mounts_is _ _ _ c.Takes-of.ensures c.if-takes.false in (other _ _ _ _ m c.silent-2.ensures, (other _ _ _ _ m refl, other _ _ _ _ m refl))
+    let m = mounts_is _ _ _ c.takes_of-takes.ensures c.if-takes.false in
+    record { reply = other _ _ _ _ m c.silent-2.ensures; names = other _ _ _ _ m refl; dirs = other _ _ _ _ m refl }

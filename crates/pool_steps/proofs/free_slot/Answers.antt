@@ -17,8 +17,11 @@ put_header-put-requires-clause-path_len c =
 
 pub returns-then-last-ne0 : goal.returns-then-last-ne0
 returns-then-last-ne0 c =
-    let w = (c.put_header-put.ensures.same, c.put_header-put.ensures.kept) in
-    let same = ap (λ (x : Header). encoded x []) c.free-free.ensures in record { same = free_stopped _ _ _ _ _ _ _ _ _ same w.0 c.if-last-ne0.true; kept = w.1 }
+    let same = ap (λ (x : Header). encoded x []) c.free-free.ensures in
+    record {
+      same = free_stopped _ _ _ _ _ _ _ _ _ same c.put_header-put.ensures.same c.if-last-ne0.true;
+      kept = c.put_header-put.ensures.kept;
+    }
 
 pub data_truncate-requires-clause-shape : goal.data_truncate-requires-clause-shape
 data_truncate-requires-clause-shape c =
@@ -31,4 +34,8 @@ data_truncate-requires-clause-slot_in_bounds c =
 pub returns : goal.returns
 returns c =
     let same = ap (λ (x : Header). encoded x []) c.free-free.ensures in
-    let t = (c.data_truncate.ensures.same, c.data_truncate.ensures.kept) in record { same = free_done _ _ _ _ _ _ _ _ _ same c.put_header-put.ensures.same _ c.if-last-ne0.false t.0; kept = t.1 }
+    record {
+      same = free_done _ _ _ _ _ _ _ _ _ same c.put_header-put.ensures.same _ c.if-last-ne0.false
+        c.data_truncate.ensures.same;
+      kept = c.data_truncate.ensures.kept;
+    }

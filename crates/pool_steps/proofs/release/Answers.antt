@@ -17,19 +17,14 @@ free_slot-freed-requires c =
 
 pub returns-then-last-ne0 : goal.returns-then-last-ne0
 returns-then-last-ne0 c =
-    let p = (c.requires.ready, c.requires.slot_lt_held) in
-    let u = (c.unbind_row.ensures.rows, c.unbind_row.ensures.flat) in
-    release_stopped _ _ p.0 _ p.1.0 p.1.1 _ _ _ u.0 u.1 _ c.next_generation-spent.ensures _
+    release_stopped _ _ c.requires.ready _ c.requires.slot_lt_held.0 c.requires.slot_lt_held.1 _ _ _ c.unbind_row.ensures.rows c.unbind_row.ensures.flat _ c.next_generation-spent.ensures _
     c.free_slot-freed.ensures.same c.if-last-ne0.true
 
 pub push_free-requires : goal.push_free-requires
 push_free-requires c =
-    let p = (c.requires.ready, c.requires.slot_lt_held) in
-    room _ _ p.0 _ p.1.0 p.1.1 _ c.next_generation-spent.ensures
+    room _ _ c.requires.ready _ c.requires.slot_lt_held.0 c.requires.slot_lt_held.1 _ c.next_generation-spent.ensures
 
 pub returns : goal.returns
 returns c =
-    let p = (c.requires.ready, c.requires.slot_lt_held) in
-    let u = (c.unbind_row.ensures.rows, c.unbind_row.ensures.flat) in
-    release_done _ _ p.0 _ p.1.0 p.1.1 _ _ _ u.0 u.1 _ c.next_generation-spent.ensures _
+    release_done _ _ c.requires.ready _ c.requires.slot_lt_held.0 c.requires.slot_lt_held.1 _ _ _ c.unbind_row.ensures.rows c.unbind_row.ensures.flat _ c.next_generation-spent.ensures _
     c.free_slot-freed.ensures.same _ c.if-last-ne0.false c.push_free.ensures

@@ -10,14 +10,11 @@ row_header-header-requires c =
 
 pub overflow_mul-from : goal.overflow_mul-from
 overflow_mul-from c =
-    let start = «Start» in
-    omega (arith, (row_part _ _ start.pre.0 _ start.pre.1.0 _ c.row_header-header.ensures).0)
+    omega (arith, (row_part _ _ c.requires.ready _ c.requires.i_lt_held.0 _ c.row_header-header.ensures).0)
 
 pub overflow_add-from : goal.overflow_add-from
 overflow_add-from c =
-    let start = «Start» in
-    let names = start.good.1.1.1.1.1.1.0.0 in
-    omega (arith, (row_part _ _ start.pre.0 _ start.pre.1.0 _ c.row_header-header.ensures).0, names)
+    omega (arith, (row_part _ _ c.requires.ready _ c.requires.i_lt_held.0 _ c.row_header-header.ensures).0)
 
 pub slice_bounds-put_header-end : goal.slice_bounds-put_header-end
 slice_bounds-put_header-end c =
@@ -29,10 +26,9 @@ put_header-put-requires c =
 
 pub returns-then-last-ne0 : goal.returns-then-last-ne0
 returns-then-last-ne0 c =
-    let p = (c.requires.ready, c.requires.i_lt_held) in
     let h = c.row_header-header.ensures in
-    let r = row_part _ _ p.0 _ p.1.0 _ h in
-    sync_stopped _ _ p.0 _ _ _ _ _ h r.1 c.put_header-put.ensures.same c.if-last-ne0.true
+    let r = row_part _ _ c.requires.ready _ c.requires.i_lt_held.0 _ h in
+    sync_stopped _ _ c.requires.ready _ _ _ _ _ h r.1 c.put_header-put.ensures.same c.if-last-ne0.true
 
 pub clean_row-requires : goal.clean_row-requires
 clean_row-requires c =
@@ -40,8 +36,6 @@ clean_row-requires c =
 
 pub returns : goal.returns
 returns c =
-    let p = (c.requires.ready, c.requires.i_lt_held) in
     let h = c.row_header-header.ensures in
-    let r = row_part _ _ p.0 _ p.1.0 _ h in
-    let k = (c.clean_row.ensures.rows, c.clean_row.ensures.flat) in
-    sync_done _ _ p.0 _ _ _ _ _ h r.1 c.put_header-put.ensures.same _ k.0 k.1 c.if-last-ne0.false
+    let r = row_part _ _ c.requires.ready _ c.requires.i_lt_held.0 _ h in
+    sync_done _ _ c.requires.ready _ _ _ _ _ h r.1 c.put_header-put.ensures.same _ c.clean_row.ensures.rows c.clean_row.ensures.flat c.if-last-ne0.false

@@ -7,13 +7,13 @@ use Rattle.pool_test.proofs.has_cell.Goals as goal
 
 pub loop-j-init : goal.loop-j-init
 loop-j-init c =
-    (omega arith, flag_start (is_at c.args.t1 c.args.x) c.args.k)
+    (omega arith, flag_start (is_at c.args.q c.args.x) c.args.k)
 
 pub loop-j-preserved : goal.loop-j-preserved
 unfolding is_at
 loop-j-preserved c =
-    (omega arith, flag_turn (is_at c.args.t1 c.args.x) c.args.k c.loop-j.j c.loop-j.hit _ c.loop-j-test.true c.loop-j.invariant.1 c.struck-hit.ensures)
+    (omega arith, flag_turn (is_at c.args.q c.args.x) c.args.k c.loop-j.j c.loop-j.hit _ c.loop-j-test.true c.loop-j.invariant.1 c.struck-hit.ensures)
 
 pub returns : goal.returns
 returns c =
-    flag_end (is_at c.args.t1 c.args.x) c.args.k c.loop-j.j c.loop-j.hit c.loop-j-test.false c.loop-j.invariant.1
+    flag_end (is_at c.args.q c.args.x) c.args.k c.loop-j.j c.loop-j.hit c.loop-j-test.false c.loop-j.invariant.1

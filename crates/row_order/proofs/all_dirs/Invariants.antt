@@ -7,7 +7,7 @@ use Rattle.row_order.specs.Picks.{Picking}
 use Rattle.row_order.proofs.all_dirs.Given as goal
 
 abbrev pub invariant-loop-j : goal.invariant-loop-j
-invariant-loop-j l = Picking (dir_span (dirs_of l.dirs l.m)) (λ (l.j : ℕ). true) l.m l.initial.spans l.j l.j l.spans
+invariant-loop-j l = Picking (dir_span (dirs_of l.dirs l.m)) (λ (j : ℕ). true) l.m l.initial.spans l.j l.j l.spans
 
 abbrev pub decreases-loop-j : goal.decreases-loop-j
 decreases-loop-j l = l.m - l.j

@@ -1,4 +1,5 @@
 -- One law for each way out: `args_short`, `args_first`, `args_second`, `args_whole`.
+use borrow.Author.Tests.{not-true, not-false}
 use mathlib.Core.Path.{◌∙◌, sym, subst, ◌≡◌}
 use mathlib.Core.Bool.{Bool}
 use Prim.Native.Nat.{ℕ, ◌≤◌, ◌<◌, ◌+◌}
@@ -44,7 +45,7 @@ returns-then-s-at_runs c =
 
 pub returns-then-not-first : goal.returns-then-not-first
 returns-then-not-first c =
-    c.no_op-then-not-first.ensures ∙ args_first _ _ _ _ c.requires.1 c.if-s-at_runs.false _ c.run_if-first.ensures (c.if-not-first.true)
+    c.no_op-then-not-first.ensures ∙ args_first _ _ _ _ c.requires.1 c.if-s-at_runs.false _ c.run_if-first.ensures (not-true _ c.if-not-first.true)
 
 pub run_if-second-requires : goal.run_if-second-requires
 run_if-second-requires c =
@@ -52,7 +53,7 @@ run_if-second-requires c =
 
 pub returns-then-not-second : goal.returns-then-not-second
 returns-then-not-second c =
-    c.no_op-then-not-second.ensures ∙ args_second _ _ _ _ c.requires.1 c.if-s-at_runs.false _ c.run_if-first.ensures (c.if-not-first.false) _ c.run_if-second.ensures (c.if-not-second.true)
+    c.no_op-then-not-second.ensures ∙ args_second _ _ _ _ c.requires.1 c.if-s-at_runs.false _ c.run_if-first.ensures (not-false _ c.if-not-first.false) _ c.run_if-second.ensures (not-true _ c.if-not-second.true)
 
 pub get_at-requires : goal.get_at-requires
 get_at-requires c =
@@ -66,7 +67,7 @@ get_at-requires-2 c =
 
 pub overflow_cast-result : goal.overflow_cast-result
 overflow_cast-result c =
-    let m = small _ _ c.pre.1 in
+    let m = small _ _ c.requires.1 in
     let h = subst (λ (x : ℕ). x < 256) (sym c.get_at-2.ensures) (field_lt c.args.s.now (c.args.i + c.args.f.slot)
     c.args.f.flag 1 (λ j. omega (arith, c.shared_slice_known-1.given j)) m.flag) in
     omega (arith, h)
@@ -93,5 +94,5 @@ get_at-requires-6 c =
 
 pub returns : goal.returns
 returns c =
-    args_whole _ _ _ _ c.requires.1 c.if-s-at_runs.false _ c.run_if-first.ensures (c.if-not-first.false) _ c.run_if-second.ensures _ _ _ _ _ _ (c.if-not-second.false) c.get_at.ensures c.get_at-2.ensures
+    args_whole _ _ _ _ c.requires.1 c.if-s-at_runs.false _ c.run_if-first.ensures (not-false _ c.if-not-first.false) _ c.run_if-second.ensures _ _ _ _ _ _ (not-false _ c.if-not-second.false) c.get_at.ensures c.get_at-2.ensures
     c.get_at-3.ensures c.get_at-4.ensures c.get_at-5.ensures c.get_at-6.ensures

@@ -1,7 +1,7 @@
 -- A turn of the loop is `lengths_turn`: the lengths read so far, and those still to read, make the whole list.
 use mathlib.Core.Path.{◌∙◌, ◌≡◌, sym, ap, refl}
 use mathlib.Core.List.{List, ◌++◌, append-nil}
-use Prim.Native.Nat.{ℕ, ◌+◌, ◌-◌}
+use Prim.Native.Nat.{ℕ}
 use native.Mathlib.Nat.{sub-zero}
 use lib.ListN.{length, take, length-set}
 use lib.Seq.{take_all}
@@ -9,9 +9,6 @@ use Rattle.lists.specs.Runs.{tab_end}
 use Rattle.script_format.specs.Format.{length_at}
 use Rattle.script_format.proofs.Ways.{lengths_set}
 use native.Mathlib.Omega.{arith}
-use Rattle.script_format.proofs.lengths.Reads as reads
-use Rattle.script_format.proofs.lengths.Lts as lts
-use Rattle.le.proofs.get_at.Reads as get-at-reads
 use Rattle.script_format.proofs.lengths.Goals as goal
 
 pub loop-k-init : goal.loop-k-init

@@ -1,13 +1,10 @@
 -- A turn of the loop is `lengths_turn`: the lengths read so far, and those still to read, make the whole list.
 use mathlib.Core.Path.{◌≡◌}
 use mathlib.Core.List.{◌++◌}
-use Prim.Native.Nat.{◌+◌, ◌-◌, ◌≤◌}
+use Prim.Native.Nat.{◌-◌, ◌≤◌}
 use lib.ListN.{length, take}
 use Rattle.lists.specs.Runs.{tab}
 use Rattle.script_format.specs.Format.{length_at}
-use Rattle.script_format.proofs.lengths.Reads as reads
-use Rattle.script_format.proofs.lengths.Lts as lts
-use Rattle.le.proofs.get_at.Reads as get-at-reads
 use Rattle.script_format.proofs.lengths.Given as goal
 
 abbrev pub invariant-loop-k : goal.invariant-loop-k

@@ -3,8 +3,6 @@ use borrow.Author.Tests.{le-leb, lt-leb}
 use native.Mathlib.Nat.{mul-le-mul_right}
 use Rattle.script_format.specs.Format.{limits_ok}
 use native.Mathlib.Omega.{arith}
-use Rattle.script_format.proofs.limits_ok.Reads as reads
-use Rattle.script_format.proofs.limits_ok.Lts as lts
 use Rattle.script_format.proofs.limits_ok.Goals as goal
 
 pub returns-then-slots-gt64 : goal.returns-then-slots-gt64

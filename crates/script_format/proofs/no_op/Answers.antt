@@ -1,9 +1,6 @@
 -- The fields as they are made, with the empty span twice.
 use mathlib.Core.Path.{ap₂}
 use Rattle.script_format.specs.declared.Op.{Op}
-use Rattle.script_format.proofs.no_op.Reads as reads
-use Rattle.script_format.proofs.no_op.Lts as lts
-use Rattle.script_format.proofs.no_span.Reads as no-span-reads
 use Rattle.script_format.proofs.no_op.Goals as goal
 
 pub returns : goal.returns

@@ -2,9 +2,6 @@
 use mathlib.Core.Path.{ap}
 use mathlib.Core.Bool.{false}
 use Rattle.script_format.specs.declared.Setup.{Setup}
-use Rattle.script_format.proofs.no_setup.Reads as reads
-use Rattle.script_format.proofs.no_setup.Lts as lts
-use Rattle.script_format.proofs.no_span.Reads as no-span-reads
 use Rattle.script_format.proofs.no_setup.Goals as goal
 
 pub returns : goal.returns

@@ -1,6 +1,6 @@
 -- A turn of the loop is `patches_turn`: patching what is left gives the whole; `patches_stop` and `patches_end` are the ways out.
+use borrow.Author.Tests.{not-true, not-false}
 use mathlib.Core.Path.{◌∙◌, ◌≡◌, sym, ap, refl}
-use mathlib.Core.Bool.{true}
 use Prim.Native.Nat.{ℕ, suc, ◌+◌, ◌-◌}
 use native.Mathlib.Nat.{sub-zero}
 use Rattle.script_format.specs.declared.Span.{Span}
@@ -8,10 +8,6 @@ use Rattle.script_format.specs.Format.{patching, patched_m}
 use Rattle.script_format.specs.Reading.{patch_end}
 use Rattle.script_format.proofs.Ways.{patches_stop, patches_turn, patches_end}
 use native.Mathlib.Omega.{arith}
-use Rattle.script_format.proofs.patch.Reads as reads
-use Rattle.script_format.proofs.patch.Lts as lts
-use Rattle.script_format.proofs.no_span.Reads as no-span-reads
-use Rattle.script_format.proofs.patch_one.Reads as patch-one-reads
 use Rattle.script_format.proofs.patch.Goals as goal
 
 pub loop-k-init : goal.loop-k-init
@@ -31,7 +27,7 @@ returns-then-not-run c =
     let n : c.args.count - c.loop-k.k ≡ suc (c.args.count - (c.loop-k.k + 1)) = omega arith in
     ap (λ (r : Span). patching r c.patch_one-run.new.bytes) c.no_span.ensures ∙ patches_stop _
     (c.args.count - (c.loop-k.k + 1)) _ _ _ _ c.patch_one-run.ensures
-    (c.if-not-run.true) ∙ ap
+    (not-true _ c.if-not-run.true) ∙ ap
     (λ (j : ℕ). patched_m c.args.s.now j c.loop-k.at c.loop-k.bytes) (sym n) ∙ c.loop-k.invariant.3
 
 pub loop-k-preserved : goal.loop-k-preserved
@@ -41,7 +37,7 @@ loop-k-preserved c =
       omega arith,
       c.patch_one-run.auto.bytes ∙ c.loop-k.invariant.2,
       patches_turn _ (c.args.count - (c.loop-k.k + 1)) _ _ _ _ c.patch_one-run.ensures
-          (c.if-not-run.false) ∙ ap (λ (j : ℕ). patched_m c.args.s.now j c.loop-k.at c.loop-k.bytes)
+          (not-false _ c.if-not-run.false) ∙ ap (λ (j : ℕ). patched_m c.args.s.now j c.loop-k.at c.loop-k.bytes)
           (sym n) ∙ c.loop-k.invariant.3,
     )
 

@@ -3,10 +3,6 @@ use mathlib.Core.Path.{◌≡◌}
 use Prim.Native.Nat.{◌-◌, ◌≤◌}
 use lib.ListN.{length}
 use Rattle.script_format.specs.Format.{patched_m}
-use Rattle.script_format.proofs.patch.Reads as reads
-use Rattle.script_format.proofs.patch.Lts as lts
-use Rattle.script_format.proofs.no_span.Reads as no-span-reads
-use Rattle.script_format.proofs.patch_one.Reads as patch-one-reads
 use Rattle.script_format.proofs.patch.Given as goal
 
 abbrev pub invariant-loop-k : goal.invariant-loop-k

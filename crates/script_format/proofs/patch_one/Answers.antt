@@ -1,4 +1,5 @@
 -- One law for each way out: `patch_short`, `patch_cut`, `patch_outside`, `patch_inside`.
+use borrow.Author.Tests.{not-true, not-false}
 use mathlib.Core.Path.{◌∙◌, ◌≡◌, sym, subst, ap}
 use mathlib.Core.List.{List}
 use Prim.Native.Nat.{ℕ, ◌<◌}
@@ -7,12 +8,6 @@ use Rattle.script_format.specs.Format.{span_at, patching}
 use Rattle.script_format.specs.Reading.{Inside, span_inside, field_lt}
 use Rattle.script_format.proofs.Ways.{patch_short, patch_cut, patch_outside, patch_inside}
 use native.Mathlib.Omega.{arith}
-use Rattle.script_format.proofs.patch_one.Reads as reads
-use Rattle.script_format.proofs.patch_one.Lts as lts
-use Rattle.le.proofs.get_at.Reads as get-at-reads
-use Rattle.script_format.proofs.no_span.Reads as no-span-reads
-use Rattle.script_format.proofs.run_at.Reads as run-at-reads
-use Rattle.output.proofs.put_bytes.Reads as put-bytes-reads
 use Rattle.script_format.proofs.patch_one.Goals as goal
 
 in-script : (s : List ℕ) (i : ℕ) (a : Span) → a ≡ span_at s i → Inside s i a
@@ -24,7 +19,7 @@ returns-then-s-from c =
 
 pub returns-then-not-run : goal.returns-then-not-run
 returns-then-not-run c =
-    ap (λ (r : Span). patching r c.args.bytes.now) c.no_span-then-not-run.ensures ∙ patch_cut _ _ _ c.if-s-from.false _ c.run_at-run.ensures (c.if-not-run.true)
+    ap (λ (r : Span). patching r c.args.bytes.now) c.no_span-then-not-run.ensures ∙ patch_cut _ _ _ c.if-s-from.false _ c.run_at-run.ensures (not-true _ c.if-not-run.true)
 
 pub overflow_sub-e : goal.overflow_sub-e
 overflow_sub-e c =
@@ -40,7 +35,7 @@ pub returns-then-bytes-place : goal.returns-then-bytes-place
 returns-then-bytes-place c =
     ap (λ (r : Span). patching r c.args.bytes.now) c.no_span-then-bytes-place.ensures ∙ patch_outside _ _ _
     c.if-s-from.false _ c.run_at-run.ensures
-    (c.if-not-run.false) _ c.get_at-place.ensures c.if-bytes-place.true
+    (not-false _ c.if-not-run.false) _ c.get_at-place.ensures c.if-bytes-place.true
 
 pub slice_bounds-put_bytes-count : goal.slice_bounds-put_bytes-count
 slice_bounds-put_bytes-count c =
@@ -57,5 +52,5 @@ slice_bounds-put_bytes-end c =
 pub returns : goal.returns
 returns c =
     patch_inside _ _ _ c.if-s-from.false _ c.run_at-run.ensures
-    (c.if-not-run.false) _ c.get_at-place.ensures _ _
+    (not-false _ c.if-not-run.false) _ c.get_at-place.ensures _ _
     c.if-bytes-place.false c.put_bytes.ensures

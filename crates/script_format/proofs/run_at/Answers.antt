@@ -1,10 +1,6 @@
 -- One law for each way out: `run_short`, `run_cut`, `run_whole`.
 use mathlib.Core.Path.{◌∙◌}
 use Rattle.script_format.proofs.Ways.{run_short, run_cut, run_whole}
-use Rattle.script_format.proofs.run_at.Reads as reads
-use Rattle.script_format.proofs.run_at.Lts as lts
-use Rattle.le.proofs.get_at.Reads as get-at-reads
-use Rattle.script_format.proofs.no_span.Reads as no-span-reads
 use Rattle.script_format.proofs.run_at.Goals as goal
 
 pub returns-then-n-from : goal.returns-then-n-from

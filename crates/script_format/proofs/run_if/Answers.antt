@@ -1,8 +1,5 @@
 -- One law for each way out: `if_wanted`, `if_not`.
 use Rattle.script_format.proofs.Ways.{if_wanted, if_not}
-use Rattle.script_format.proofs.run_if.Reads as reads
-use Rattle.script_format.proofs.run_if.Lts as lts
-use Rattle.script_format.proofs.run_at.Reads as run-at-reads
 use Rattle.script_format.proofs.run_if.Goals as goal
 
 pub returns-then-wanted : goal.returns-then-wanted

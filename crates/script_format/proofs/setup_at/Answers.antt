@@ -4,12 +4,6 @@ use Prim.Native.Nat.{ℕ, ◌<◌}
 use Rattle.script_format.specs.Reading.{field_lt}
 use Rattle.script_format.proofs.Ways.{setup_long, setup_short, setup_other, setup_large, setup_fits}
 use native.Mathlib.Omega.{arith}
-use Rattle.script_format.proofs.setup_at.Reads as reads
-use Rattle.script_format.proofs.setup_at.Lts as lts
-use Rattle.le.proofs.get_at.Reads as get-at-reads
-use Rattle.script_format.proofs.behind_plan.Reads as behind-plan-reads
-use Rattle.script_format.proofs.limits_ok.Reads as limits-ok-reads
-use Rattle.script_format.proofs.no_setup.Reads as no-setup-reads
 use Rattle.script_format.proofs.setup_at.Goals as goal
 
 pub returns-then-n-ge-LONGEST : goal.returns-then-n-ge-LONGEST
@@ -33,13 +27,12 @@ overflow_cast-rows c =
     omega (arith, c.shared_slice_known-1.given 2)
 
 pub limits_ok-requires : goal.limits_ok-requires
-limits_ok-requires c =
-    (
-      omega (arith, c.shared_slice_known-1.given 1),
-      subst (λ (k : ℕ). k < 4294967296) (sym c.get_at-size.ensures)
-          (field_lt c.args.s.now 5 4 4
-          (λ j. omega (arith, c.shared_slice_known-1.given j)) (omega arith)),
-    )
+limits_ok-requires c = (
+  omega (arith, c.shared_slice_known-1.given 1),
+  subst (λ (k : ℕ). k < 4294967296) (sym c.get_at-size.ensures)
+      (field_lt c.args.s.now 5 4 4
+      (λ j. omega (arith, c.shared_slice_known-1.given j)) (omega arith)),
+)
 
 pub returns-then-not-limits_ok : goal.returns-then-not-limits_ok
 returns-then-not-limits_ok c =

@@ -26,11 +26,11 @@ put_pool-requires c =
 
 pub returns-then-pool_ok : goal.returns-then-pool_ok
 returns-then-pool_ok c =
-    let b = bufs c.args.pool c.args.nums.now c.args.names.now c.args.dirs.now in record { record = record_pool b _ (sym c.pool_ok.ensures ∙ c.if-pool_ok.true)
+    let b = bufs c.args.pool c.args.nums.now c.args.names.now c.args.dirs.now in record { «record» = record_pool b _ (sym c.pool_ok.ensures ∙ c.if-pool_ok.true)
           (pours_then (le 1 1) (pool_shown (view b)) (shown c.args.out.now c.args.at) c.put_le-a.ensures
           c.put_pool.ensures.pool); few = omega (arith, after_pours _ _ c.put_le-a.ensures, length_le 1 1, c.put_pool.ensures.few) }
 
 pub returns : goal.returns
 returns c =
-    let b = bufs c.args.pool c.args.nums.now c.args.names.now c.args.dirs.now in record { record = record_none b _ (sym c.pool_ok.ensures ∙ c.if-pool_ok.false)
+    let b = bufs c.args.pool c.args.nums.now c.args.names.now c.args.dirs.now in record { «record» = record_none b _ (sym c.pool_ok.ensures ∙ c.if-pool_ok.false)
           c.put_le.ensures; few = omega (arith, after_pours _ _ c.put_le.ensures, length_le 13 0) }

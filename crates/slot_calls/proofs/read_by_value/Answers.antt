@@ -10,7 +10,7 @@ returns-then-number-ne0 c =
 pub data_read-got-requires : goal.data_read-got-requires
 data_read-got-requires c =
     let p = let_through _ _ _ (dev c.args.bytes.now c.args.phys.now c.args.place) _ c.refusal-number.ensures c.if-number-ne0.false in
-    (p.shape, p.row)
+    record { shape = p.shape; slot_in_bounds = p.row }
 
 pub returns : goal.returns
 returns c =

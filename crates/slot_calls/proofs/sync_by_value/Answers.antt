@@ -13,7 +13,7 @@ returns-then-number-ne0 c =
 pub put_header-after-requires : goal.put_header-after-requires
 put_header-after-requires c =
     let p = let_through _ _ _ (dev c.args.bytes.now c.args.phys.now c.args.place) _ c.refusal-number.ensures c.if-number-ne0.false in
-    ((p.shape, p.row), (refl, p.short))
+    record { shape = (p.shape, p.row); path_len = (refl, p.short) }
 
 pub returns : goal.returns
 unfolding sync_slot_m

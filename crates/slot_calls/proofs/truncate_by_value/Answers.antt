@@ -12,7 +12,7 @@ returns-then-number-ne0 c =
 pub data_truncate-after-requires : goal.data_truncate-after-requires
 data_truncate-after-requires c =
     let p = let_through _ _ _ (dev c.args.bytes.now c.args.phys.now c.args.place) _ c.refusal-number.ensures c.if-number-ne0.false in
-    (p.shape, p.row)
+    record { shape = p.shape; slot_in_bounds = p.row }
 
 pub returns : goal.returns
 unfolding truncate_slot_m

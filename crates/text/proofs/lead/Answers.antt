@@ -1,7 +1,7 @@
 -- `lead` meets its contract by the laws `lead_1` to `lead_4`, one for each return. Assumes nothing.
 use mathlib.Core.Path.{◌∙◌, sym}
 use native.Mathlib.Omega.{arith}
-use Rattle.text.specs.Steps.{lead_1, lead_none, lead_2, lead_3, lead_4}
+use Rattle.text.proofs.Steps.{lead_1, lead_none, lead_2, lead_3, lead_4}
 use Rattle.text.proofs.lead.Goals as goal
 
 pub returns-then-b-le127 : goal.returns-then-b-le127

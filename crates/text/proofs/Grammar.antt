@@ -4,7 +4,7 @@ use Rattle.std.specs.Prelude.{ℕ, ◌<◌, ◌≡◌, List, [], ◌∷◌, true
 use Rattle.std.proofs.Common.{arith, eqb-true}
 use Rattle.text.specs.Text.{Text, none, more, utf8_1, between, walk_of, is_text}
 use Rattle.text.specs.Greatest.{greatest}
-use Rattle.text.specs.Steps.{walk_sound, text_walk}
+use Rattle.text.proofs.Steps.{walk_sound, text_walk}
 
 -- What the test lets pass is text by the grammar.
 pub text_sound : {s : List ℕ} → is_text s ≡ true → Text s
