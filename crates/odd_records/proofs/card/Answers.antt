@@ -2,14 +2,11 @@
 use Prim.Native.Nat.{ℕ}
 use mathlib.Core.Path.{◌≡◌, sym}
 use lib.ListN.{length, replicate, length-replicate}
-use Rattle.odd_records.proofs.card.Statement.{statement}
-use Rattle.odd_records.proofs.card.Tie as tie
+use Rattle.odd_records.proofs.card.Goals as goal
 
 many : (n : ℕ) → n ≡ length (replicate {A = ℕ} n 0)
 many n = sym (length-replicate {A = ℕ} n 0)
 
-returns : tie.Need-returns
-returns c = many 1049088
-
-pub card-spec : {M : Type 1} → statement M
-card-spec = tie.close (tie.spec returns)
+pub returns : goal.returns
+returns c =
+    many 1049088
