@@ -9,33 +9,34 @@ use Rattle.script_step.proofs.on_path.Goals as goal
 pub returns-in-10 : goal.returns-in-10
 unfolding on_path
 returns-in-10 c =
-    sym (ap on_path c.in-10.keys1)
+    sym (ap on_path c.in-10.is)
 
 pub returns-in-11 : goal.returns-in-11
 unfolding on_path
 returns-in-11 c =
-    sym (ap on_path c.in-11.keys2)
+    sym (ap on_path c.in-11.is)
 
 pub returns-in-12 : goal.returns-in-12
 unfolding on_path
 returns-in-12 c =
-    sym (ap on_path c.in-12.keys3)
+    sym (ap on_path c.in-12.is)
 
 pub returns-in-13 : goal.returns-in-13
 unfolding on_path
 returns-in-13 c =
-    sym (ap on_path c.in-13.keys4)
+    sym (ap on_path c.in-13.is)
 
 pub returns-in-14 : goal.returns-in-14
 unfolding on_path
 returns-in-14 c =
-    sym (ap on_path c.in-14.keys5)
+    sym (ap on_path c.in-14.is)
 
 pub returns-in-15 : goal.returns-in-15
 unfolding on_path
 returns-in-15 c =
-    sym (ap on_path c.in-15.keys6)
+    sym (ap on_path c.in-15.is)
 
 pub returns-in_default : goal.returns-in_default
 returns-in_default c =
-    is_metadata _ c.in_default.rest.0.0.0.0.0.1 c.in_default.rest.0.0.0.0.1 c.in_default.rest.0.0.0.1 c.in_default.rest.0.0.1 c.in_default.rest.0.1 c.in_default.rest.1
+    let n = c.in_default in
+    is_metadata _ n.not-10 n.not-11 n.not-12 n.not-13 n.not-14 n.not-15
