@@ -1,5 +1,6 @@
 -- Case by case; `is_metadata` is the last.
 use mathlib.Core.Path.{sym, ap}
+use borrow.Author.Rules.{rules}
 use Rattle.script_step.specs.Operate.{on_path}
 use Rattle.script_step.proofs.Ways.{is_metadata}
 use Rattle.script_step.proofs.on_path.Reads as reads
@@ -38,5 +39,4 @@ returns-in-15 c =
 
 pub returns-in_default : goal.returns-in_default
 returns-in_default c =
-    let n = c.in_default in
-    is_metadata _ n.not-10 n.not-11 n.not-12 n.not-13 n.not-14 n.not-15
+    search (rules, is_metadata)
