@@ -1,5 +1,4 @@
 -- Carried by the record `Draining`: the releases that are left come to the whole.
-use Prim.Native.Nat.{◌-◌}
 use mathlib.Core.Path.{◌≡◌, refl, ◌∙◌}
 use lib.ListN.{length}
 use borrow.Author.Rules.{rules}
@@ -20,20 +19,18 @@ release-s-requires c =
 pub overflow_add-i : goal.overflow_add-i
 overflow_add-i c =
     omega (
-  arith,
-  (c.loop-i-test.true),
-  (c.ranges.count),
-
-)
+      arith,
+      (c.loop-i-test.true),
+      (c.ranges.count),
+    )
 
 pub loop-i-smaller : goal.loop-i-smaller
 loop-i-smaller c =
     omega (
-  arith,
-  (c.loop-i-test.true),
-  (c.ranges.count),
-
-)
+      arith,
+      (c.loop-i-test.true),
+      (c.ranges.count),
+    )
 
 pub loop-i-preserved : goal.loop-i-preserved
 loop-i-preserved c =

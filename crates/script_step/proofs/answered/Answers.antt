@@ -8,7 +8,7 @@ use Rattle.script_step.proofs.answered.Goals as goal
 pub put_answer-to-requires : goal.put_answer-to-requires
 put_answer-to-requires c =
     let same = sym c.make-came.kept.1.1.1.1.1.1.1.1.1.1.1.0 in
-    (c.pre.1, subst (λ (k : ℕ). k < 65536) same c.pre.2, c.pre.3)
+    (c.requires.1, subst (λ (k : ℕ). k < 65536) same c.requires.2, c.requires.3)
 
 pub returns : goal.returns
 returns c =
