@@ -15,12 +15,12 @@ PAST = ("docs/notes/",)
 # The table of old names stands behind this heading.
 OLD_NAMES = "## Names of crates"
 # Names in backticks that belong to others: Rust's and regolith's, the shell's, and words of the command program.
-OTHERS = set("from_utf8 std cargo rustc python3 gcc std::str std::path Path::parent pool.rs sah.rs checksum.rs".split())
+OTHERS = set("from_utf8 std cargo rustc python3 gcc std::str std::path Path::parent pool.rs sah.rs checksum.rs adopt_slots".split())
 # Words that may stand behind "crate" without being a crate's name.
 PLAIN = set("a and as at by can for has have in is it its may means needs of only or that the to under which with".split())
 
-
-DEFINED = r"^\s*(?:abbrev |unfoldable )?(?:pub )?(?:record )?([\w′]+(?:-[\w′]+)*) (?::|\()"
+DEFINED = r"^\s*(?:abbrev |unfoldable )?(?:pub )?(?:record )?([\w']+(?:-[\w']+)*) (?::|\()"
+DECLARED = r"\b(?:fn|struct|enum|const) (\w+)"
 
 
 def tracked():
@@ -29,35 +29,36 @@ def tracked():
         out = subprocess.run(["git", "ls-files"], cwd=ROOT, capture_output=True, text=True, check=True).stdout.splitlines()
     except (OSError, subprocess.CalledProcessError):
         found = [path.relative_to(ROOT) for path in sorted(ROOT.rglob("*"))]
-        out = [str(path) for path in found if not {"target", ".git"} & set(path.parts)]
+        out = [str(path) for path in found if not {"target", "out", ".git"} & set(path.parts)]
     return [name for name in out if (ROOT / name).is_file()]
 
 
 def words(text):
     """Every name in a text: letters, digits, `_`, `'` and hyphens inside; and its pieces, where hyphens join them."""
-    return set(re.findall(r"[\w′]+(?:-[\w′]+)*", text)) | set(re.findall(r"[\w′]+", text))
+    return set(re.findall(r"[\w']+(?:-[\w']+)*", text)) | set(re.findall(r"\w+", text))
 
 
 class Names:
     def __init__(self, files):
         self.files = set(files)
         self.parents = {str(p) for name in files for p in Path(name).parents}
-        self.crates = {line.split(":")[0] for line in (ROOT / "crates.txt").read_text().splitlines() if re.match(r"\w+:", line)}
+        self.crates = set(re.findall(r"^(\w+)(?: staticlib)?:", (ROOT / "crates.txt").read_text(), re.M))
         self.listed = set()
-        self.edits, self.defined, self.all, self.functions = set(), set(), set(), {}
+        self.edits, self.defined, self.declared, self.all, self.functions = set(), set(), set(self.crates), set(), {}
         for name in files:
             parts = name.split("/")
             if name.endswith(".edit"):
                 self.edits.add(f"{parts[1]}/{parts[-1][:-5]}")
-            if name.endswith((".antt", ".rt", ".rs", ".py", ".toml", "crates.txt")) or parts[-1] in ("run", "quick"):
+            if name.endswith((".antt", ".rt", ".rs", ".py", ".toml", "crates.txt")) or parts[-1] in ("run", "quick", "staticlib"):
                 text = (ROOT / name).read_text(encoding="utf-8")
                 self.all |= words(text)
                 self.all |= {piece for part in parts for piece in (part, part.split(".")[0])}
                 if name.endswith(".antt"):
                     self.defined |= set(re.findall(DEFINED, text, re.M))
                 if name.endswith(".rt"):
-                    found = re.findall(r"\b(?:fn|struct|enum|const) (\w+)", text)
-                    self.functions.setdefault(parts[1], set()).update(found)
+                    self.functions.setdefault(parts[1], set()).update(re.findall(DECLARED, text))
+                if name.endswith((".rt", ".rs")):
+                    self.declared |= {*re.findall(DECLARED, text), parts[-1].split(".")[0]}
 
     def unknown(self, name):
         """What is wrong with a name in backticks, or nothing."""
@@ -72,6 +73,8 @@ class Names:
         if re.fullmatch(r"[a-z0-9]+(?:-[a-z0-9]+)+", name):
             ok = name in self.defined or any(edit.endswith("/" + name) for edit in self.edits)
             return None if ok else "no such theorem or edit"
+        if re.fullmatch(r"[a-z0-9]+(?:_[a-z0-9]+)+", name):
+            return None if name in self.defined | self.declared else "no such theorem or function"
         if re.fullmatch(r"[A-Za-z_]\w*", name):
             return None if name in self.all else "no such name"
         return None

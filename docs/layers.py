@@ -18,6 +18,7 @@ def read(text):
             bands.append((line.lstrip("# "), []))
         elif ":" in line:
             name, rest = line.split(":", 1)
+            name = name.removesuffix(" staticlib")
             bands[-1][1].append(name)
             needs[name] = rest.split()
     known = set(needs)

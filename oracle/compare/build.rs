@@ -1,6 +1,6 @@
 //! Links the proved static library if the repository has built it: `target/staticlib/libharness.a` under the
-//! repository's root, or the archive that `HARNESS` names. `rt staticlib` builds for x86-64: on another processor, as without
-//! an archive, the comparing programs talk to the Rattle program `serve` through pipes instead.
+//! repository's root, where `./staticlib` puts it, or the archive that `HARNESS` names. Without one for the processor at
+//! hand the comparing programs talk to the Rattle program `serve` through pipes instead.
 
 use std::env;
 use std::path::PathBuf;

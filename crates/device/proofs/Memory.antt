@@ -1,12 +1,12 @@
 -- The device of document 01 keeps the laws of AnyDevice.
-use Prim.Native.Nat.{ℕ, ◌-◌}
+use Prim.Native.Nat.{ℕ}
 use mathlib.Core.Path.{◌≡◌, refl, ap, ◌∙◌}
 use mathlib.Core.Bool.{not}
 use mathlib.Core.List.{List}
 use lib.ListN.{length}
 use borrow.Author.Tests.{not-true}
 use Rattle.device.specs.declared.Geometry.{Geometry}
-use Rattle.device.specs.Device.{Dev, Shape, turn, stops, phys_of, given}
+use Rattle.device.specs.Device.{Dev, Shape, turn, stops, phys_of}
 use Rattle.device.specs.Slots.{part_of}
 use Rattle.device.specs.AnyDevice.{Device}
 use Rattle.device.specs.Calls.{last_of, block_of, act_m, given_by, failed_m, whole_m}

@@ -1,22 +1,20 @@
 -- What the calls' proofs cite: parts that were lent are back, and one law for each way out of a call.
 use mathlib.Core.Path.{◌≡◌, refl, sym, ap, ◌∙◌}
-use mathlib.Core.List.{List, [], ◌∷◌, ◌++◌, append-nil}
-use mathlib.Core.Bool.{Bool, true, false, cond, ◌||◌}
-use Prim.Native.Nat.{ℕ, zero, suc, ◌+◌, ◌-◌, ◌*◌, ◌/◌, ◌≤◌, ◌<◌, min, max}
-use native.Mathlib.Nat.{mul-le-mul_left, mul-div_right}
-use native.Mathlib.Decide.{ℕ_discrete}
+use mathlib.Core.List.{List, [], ◌++◌}
+use mathlib.Core.Bool.{Bool, true, false, cond}
+use Prim.Native.Nat.{ℕ, ◌+◌, ◌-◌, ◌*◌, ◌/◌, ◌≤◌, ◌<◌, min, max}
+use native.Mathlib.Nat.{mul-div_right}
 use native.Mathlib.Omega.{arith}
-use lib.ListN.{length, take, drop, get_or, set, replicate, length-replicate, length-take, length-drop, length-set, drop_of_length-le}
-use lib.Seq.{get_or-set_same, get_or-set_other, set-get_or, take-length, drop-drop, length-take-le}
+use lib.ListN.{length, take, drop, get_or, set, replicate, length-replicate, length-take, length-drop}
+use lib.Seq.{set-get_or, drop-drop, length-take-le}
 use lib.Dec.{eqb, ltb}
 use borrow.Author.Tests.{eq-eqb, ne_eqb, lt-ltb, le-ltb, ltb-true, ltb-false}
 use Rattle.le.specs.Le.{laid}
-use Rattle.le.proofs.Parts.{mid_back, length_mid, laid_nothing, laid_front}
+use Rattle.le.proofs.Parts.{mid_back, laid_nothing, laid_front}
 use Rattle.device.specs.declared.Place.{Place}
 use Rattle.device.specs.declared.Geometry.{Geometry}
-use Rattle.device.specs.declared.Got.{Got}
 use Rattle.device.specs.Slots.{share_le}
-use Rattle.device.specs.Device.{dev, Shape, Slotted, turn, onward, noted, share, stops, short, stores, phys_of, given, read, read_m, grown, stored_bytes, stored_phys, stored, write_m, cut, truncate_m, flushed, seen, header_read_m, header_write_m, data_read_m, data_write_m, data_truncate_m}
+use Rattle.device.specs.Device.{dev, turn, onward, noted, share, stops, short, stores, given, read, read_m, grown, stored_bytes, stored_phys, write_m, cut, truncate_m, flushed, seen}
 
 -- a part that was lent to a copier of src as long as it, `&mut d[a..a + src.len()]`, is back
 pub copied_back : (a : ℕ) (d src : List ℕ) {ys : List ℕ} → a + length src ≤ length d

@@ -1,6 +1,6 @@
 -- What was written is read: a write that was done stored all its bytes (`wrote_is`), a read of them gives them (`given_back`), and every
 -- other byte of the slot below its old physical length is as it was (`byte_stays`).
-use Prim.Native.Nat.{ℕ, ◌+◌, ◌-◌, ◌≤◌, ◌<◌, min, max}
+use Prim.Native.Nat.{ℕ, ◌+◌, ◌-◌, ◌≤◌, ◌<◌, min}
 use native.Mathlib.Omega.{arith}
 use mathlib.Core.Path.{◌≡◌, refl, ap, ap₂, ◌∙◌}
 use mathlib.Core.Logic.{◌⊎◌, inl, inr}

@@ -1,10 +1,10 @@
 -- The laws by which alone the pool speaks of a device: its calls as data, what each does to its slot's header block, and that all else stays.
 -- Assumes nothing: a device is a record of a type, functions and their laws. The device of document 01 is `memory` of Memory.
-use Prim.Native.Nat.{ℕ, zero, suc, ◌+◌, ◌-◌, ◌/◌, ◌≤◌, ◌<◌, min, max}
+use Prim.Native.Nat.{ℕ, suc, ◌+◌, ◌-◌, ◌/◌, ◌≤◌, ◌<◌, min, max}
 use native.Mathlib.Omega.{arith}
 use Rattle.std.specs.Prelude.{◌≡◌, ◌≢◌, ◌⊎◌, Bool, cond, length, drop, replicate, eqb}
 use Rattle.std.proofs.Math.Path.{refl, ap}
-use Rattle.std.proofs.Common.{sym, ap₂, subst, ◌∙◌, inl, inr, take_all}
+use Rattle.std.proofs.Common.{sym, ap₂, subst, ◌∙◌}
 use Rattle.std.proofs.Math.Bool.{true, false}
 use mathlib.Core.List.{List, [], ◌∷◌, ◌++◌, append-nil}
 use Rattle.std.proofs.Math.ListN.{take}

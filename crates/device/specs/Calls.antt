@@ -1,5 +1,5 @@
 -- The calls of AnyDevice on the device of document 01: the model's, but for one that the shape, the slot's number or a header's length rules out, which changes nothing and has failed.
-use Rattle.std.specs.Prelude.{ℕ, ◌+◌, ◌-◌, min, ◌≡◌, Bool, true, false, cond, not, ◌&&◌, List, [], length, take, ltb, eqb}
+use Rattle.std.specs.Prelude.{ℕ, ◌+◌, min, ◌≡◌, Bool, true, false, cond, not, ◌&&◌, List, [], length, take, ltb, eqb}
 use Rattle.device.specs.declared.Geometry.{Geometry}
 use Rattle.device.specs.Device.{Dev, dev, shape_b, turn, share, phys_of, given, seen, flush_m, header_write_m, data_write_m, data_truncate_m}
 use Rattle.device.specs.Slots.{part_of}

@@ -1,5 +1,5 @@
 -- The device as a value, and what each device call makes of it: 01, "The device (added)", in its order.
-use Rattle.std.specs.Prelude.{ℕ, ◌+◌, ◌-◌, ◌*◌, ◌/◌, ◌%◌, ◌≤◌, ◌<◌, min, max, ◌≡◌, List, [], Bool, true, false, cond, ◌&&◌, ◌||◌, length, get_or, take, drop, set, replicate, ltb, leb, eqb}
+use Rattle.std.specs.Prelude.{ℕ, ◌+◌, ◌-◌, ◌*◌, ◌/◌, ◌%◌, ◌≤◌, ◌<◌, min, max, ◌≡◌, List, [], Bool, cond, ◌&&◌, ◌||◌, length, get_or, take, drop, set, replicate, ltb, leb, eqb}
 use Rattle.lists.specs.Lends.{Run}
 use Rattle.lists.specs.Runs.{all_of}
 use Rattle.le.specs.Le.{laid}

@@ -1,9 +1,9 @@
 -- Calls that antt computes, on one slot of four bytes (the model asks nothing of the size) and on file offsets.
-use Rattle.std.specs.Prelude.{ℕ, ◌≡◌, refl, List, [], ◌∷◌}
+use Rattle.std.specs.Prelude.{ℕ, ◌≡◌, refl, [], ◌∷◌}
 use Rattle.le.specs.Le.{laid}
 use Rattle.device.specs.declared.Place.{Place}
 use Rattle.device.specs.declared.Geometry.{Geometry}
-use Rattle.device.specs.Device.{dev, turn, onward, share, short, stores, stops, given, grown, stored_bytes, stored_phys, write_m, truncate_m, flushed}
+use Rattle.device.specs.Device.{dev, turn, onward, share, short, stores, stops, given, grown, stored_bytes, stored_phys, write_m, truncate_m}
 
 abbrev four : Geometry
 four = record { size = 4 }

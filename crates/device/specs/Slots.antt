@@ -1,9 +1,9 @@
 -- A slot's part of the bytes, and its block, where bytes are laid into a slot.
-use Prim.Native.Nat.{ℕ, suc, ◌+◌, ◌-◌, ◌*◌, ◌/◌, ◌≤◌, ◌<◌, min, max}
+use Prim.Native.Nat.{ℕ, suc, ◌+◌, ◌-◌, ◌*◌, ◌≤◌, min, max}
 use Rattle.std.proofs.Math.Nat.{mul-le-mul_right}
 use native.Mathlib.Omega.{arith}
 use Rattle.std.proofs.Math.Decide.{ℕ_discrete}
-use Rattle.std.specs.Prelude.{◌≡◌, refl, ◌≢◌, List, ◌++◌, drop, replicate, Bool, true, false, cond, eqb}
+use Rattle.std.specs.Prelude.{◌≡◌, refl, ◌≢◌, List, ◌++◌, drop, replicate, Bool, true, false, eqb}
 use Rattle.std.proofs.Common.{sym, ◌∙◌, append-nil, length-take-le}
 use Rattle.std.proofs.Math.Path.{ap}
 use Rattle.std.proofs.Math.ListN.{length, take, length-drop}

@@ -5,7 +5,7 @@ use mathlib.Core.List.{List, [], ◌∷◌, ◌++◌}
 use mathlib.Core.Bool.{true, false}
 use lib.ListN.{length, length-append}
 use native.Mathlib.Omega.{arith}
-use Rattle.path.specs.Path.{normal, ancestors}
+use Rattle.path.specs.Path.{normal}
 use Rattle.dir_rows.specs.Dirs.{has_path, registered, registered_with}
 use Rattle.dir_rows.specs.Rows.{dirs_of, FlatDirs}
 use Rattle.dir_rows.proofs.InBuffer.{length_dirs}

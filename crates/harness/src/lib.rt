@@ -1,4 +1,4 @@
-// The calls that are exported to the oracle harness: check, header, text, paths and scripts as plain functions on numbers and byte slices.
+// The calls that `harness_c` exports: check, header, text, paths and scripts as plain functions on numbers and byte slices.
 // Each may be called with anything. A refusal is 01's number, in the order 3, 4, 5, 13, and leaves `out` as it was; 13 says that `out` is
 // too small. Where an answer has a value, it is number * 2^32 + value.
 #![tactic(auto)]
@@ -17,22 +17,14 @@ use header::{Decoded, Header};
 use pool_state::Pool;
 
 // The state of the 32-bit FNV-1a behind these bytes, from the state `start`.
-#[unsafe(no_mangle)]
-pub extern "C" fn slot_check(start: u32, bytes: &[u8]) -> u32
+pub fn slot_check(start: u32, bytes: &[u8]) -> u32
     ensures { result ≡ fnv_from start bytes.now }
 {
     fnv::fnv1a32(start, bytes)
 }
 
 // 0 and the header block in the first 512 bytes of out; or 3, 4, 13. in_use is 0 for a free slot.
-#[unsafe(no_mangle)]
-pub extern "C" fn header_encode(
-    in_use: u8,
-    len: u64,
-    generation: u64,
-    path: &[u8],
-    out: &mut [u8],
-) -> u8
+pub fn header_encode(in_use: u8, len: u64, generation: u64, path: &[u8], out: &mut [u8]) -> u8
     ensures { outcome result out.new ≡ encode_call in_use len generation path.now out.old }
 {
     if !text::is_text(path) {
@@ -57,8 +49,7 @@ pub extern "C" fn header_encode(
 }
 
 // 0 and in use, path length, file length and generation as four u64 in the first 32 bytes of out; 1 for an absent header; or 13.
-#[unsafe(no_mangle)]
-pub extern "C" fn header_decode(block: &[u8], out: &mut [u8]) -> u8
+pub fn header_decode(block: &[u8], out: &mut [u8]) -> u8
     ensures { outcome result out.new ≡ decode_call block.now out.old }
 {
     if out.len() < 32 {
@@ -89,8 +80,7 @@ fn put_numbers(out: &mut [u8], h: Header)
 }
 
 // 1 if the bytes are text, else 0.
-#[unsafe(no_mangle)]
-pub extern "C" fn text_is(bytes: &[u8]) -> u8
+pub fn text_is(bytes: &[u8]) -> u8
     ensures { result ≡ text_call bytes.now }
 {
     if text::is_text(bytes) {
@@ -100,8 +90,7 @@ pub extern "C" fn text_is(bytes: &[u8]) -> u8
 }
 
 // 1 if a and b spell one path, else 0; or 3.
-#[unsafe(no_mangle)]
-pub extern "C" fn path_same(a: &[u8], b: &[u8]) -> u8
+pub fn path_same(a: &[u8], b: &[u8]) -> u8
     ensures { result ≡ same_call a.now b.now }
 {
     if !text::is_text(a) {
@@ -117,8 +106,7 @@ pub extern "C" fn path_same(a: &[u8], b: &[u8]) -> u8
 }
 
 // The normal spelling in the front of out, and its length; or 3, 13.
-#[unsafe(no_mangle)]
-pub extern "C" fn path_normal(path: &[u8], out: &mut [u8]) -> u64
+pub fn path_normal(path: &[u8], out: &mut [u8]) -> u64
     ensures { outcome result out.new ≡ normal_call path.now out.old }
 {
     if !text::is_text(path) {
@@ -128,8 +116,7 @@ pub extern "C" fn path_normal(path: &[u8], out: &mut [u8]) -> u64
 }
 
 // The normal spelling of the parent in the front of out, and its length; or 3, 5, 13.
-#[unsafe(no_mangle)]
-pub extern "C" fn path_parent(path: &[u8], out: &mut [u8]) -> u64
+pub fn path_parent(path: &[u8], out: &mut [u8]) -> u64
     ensures { outcome result out.new ≡ parent_call path.now out.old }
 {
     if !text::is_text(path) {
@@ -160,8 +147,7 @@ fn refusal(number: u8) -> u64
 
 // Runs a script over a small pool of its own, and writes what it puts out to out, as far as that reaches. Gives the length of the whole
 // output, 0 if the setup isn't whole.
-#[unsafe(no_mangle)]
-pub extern "C" fn pool_script(script: &[u8], out: &mut [u8]) -> usize
+pub fn pool_script(script: &[u8], out: &mut [u8]) -> usize
     ensures { shown out.new result ≡ poured (script_m script.now) out.old }
 {
     script::pool_script(script, out)
@@ -169,8 +155,7 @@ pub extern "C" fn pool_script(script: &[u8], out: &mut [u8]) -> usize
 
 // Whether rows, and a record of these counts with an empty queue, are a pool: 1 or 0. Every public call begins with this test; it is
 // exported so that its time can be measured alone.
-#[unsafe(no_mangle)]
-pub extern "C" fn record_check(
+pub fn record_check(
     nums: &[u64],
     names: &[u8],
     dirs: &[u8],
@@ -191,8 +176,7 @@ pub extern "C" fn record_check(
 
 // The same test once, and where it is a pool the path is looked for so many times: how many times it was found. Exported so that a search
 // can be measured without the test.
-#[unsafe(no_mangle)]
-pub extern "C" fn record_lookups(
+pub fn record_lookups(
     nums: &[u64],
     names: &[u8],
     dirs: &[u8],

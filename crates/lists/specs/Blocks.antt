@@ -1,11 +1,11 @@
 -- Lists in flat form: blocks of one width behind each other, zero filled to a length. Slot rows, directory rows and the queue are laid out so;
 -- the laws are stated once, over the rows' type and width.
 use Rattle.std.specs.Prelude.{◌≡◌, ℕ, zero, suc, ◌+◌, ◌-◌, ◌*◌, ◌<◌, ◌≤◌, List, [], ◌∷◌, ◌++◌, length, take, drop, replicate, slice_index, slice_index_or, slice_set, refl}
-use Rattle.std.proofs.Common.{sym, ap, subst, ◌∙◌, add-zero, zero-add, suc-add, add-suc, mul-le-mul_right, not-suc-le-zero, le_of_suc-le-suc, length-take, length-set, take_all, take_at, length-take-le, drop-drop}
+use Rattle.std.proofs.Common.{ap, ◌∙◌, add-zero, zero-add, suc-add, add-suc, mul-le-mul_right, not-suc-le-zero, le_of_suc-le-suc, length-take, length-set, take_all, take_at}
 use mathlib.Core.List.{append_assoc}
 use native.Mathlib.Omega.{arith}
 use Rattle.std.proofs.Math.ListN.{length-append, get_or-append}
-use Rattle.std.proofs.lemmas.List.{length-replicate, get_or-replicate, take-append-le, drop-append-le, set_at, set-append_left}
+use Rattle.std.proofs.lemmas.List.{length-replicate, take-append-le, set_at, set-append_left}
 use Rattle.std.proofs.lemmas.List.Edits.{sets}
 use Rattle.std.proofs.Math.Seq.{sets-eq, length-sets, drop_at, drop-append-add, get_or-append-add}
 use Rattle.lists.specs.Fronts.{drop_zeros, take_zeros}

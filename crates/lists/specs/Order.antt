@@ -1,7 +1,7 @@
 -- Three-way comparison: of numbers, its lexicographic lift to lists, and the laws of a total order.
 use Rattle.std.specs.Prelude.{◌≡◌, ℕ, ◌<◌, ◌≤◌, Bool, true, false, cond, ◌⊎◌, List, [], ◌∷◌, ◌++◌, nat_lt}
 use Rattle.std.proofs.Math.Path.{refl}
-use Rattle.std.proofs.Common.{sym, ap, subst, ◌∙◌, inl, inr, ⊎_elim, lt_trans, lt_irrefl, le_antisymm, arith, ltb-true, ltb-false, lt-ltb, le-ltb}
+use Rattle.std.proofs.Common.{inl, inr, lt_trans, le_antisymm, arith, ltb-true, ltb-false, lt-ltb, le-ltb}
 use Rattle.lists.specs.declared.Ordering.{Ordering}
 use Rattle.lists.specs.declared.Ordering.TheVariants.{Less, Equal, Greater}
 

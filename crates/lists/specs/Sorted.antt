@@ -1,7 +1,7 @@
 -- What the insertion sort means: it is ordered, it has the same elements, and its kth element is the one with k below it.
-use Rattle.std.specs.Prelude.{◌≡◌, ℕ, zero, suc, ◌+◌, ◌<◌, ◌≤◌, Bool, true, false, cond, List, [], ◌∷◌, length, slice_index_or}
+use Rattle.std.specs.Prelude.{◌≡◌, ℕ, zero, suc, ◌<◌, Bool, true, false, cond, List, [], ◌∷◌, length, slice_index_or}
 use Rattle.std.proofs.Math.Path.{refl, ap}
-use Rattle.std.proofs.Common.{sym, subst, ◌∙◌, arith}
+use Rattle.std.proofs.Common.{sym, ◌∙◌, arith}
 use Rattle.lists.specs.Sort.{keep, insert, sort, Strict, All, all_map, all_sort, all_insert, Apart, OneWay, irrefl}
 
 module _ {A : Type 0} (less : A → A → Bool) where

@@ -1,12 +1,12 @@
 -- The loops over the staged rows: each keeps "the whole answer is the answer on what is left".
-use Prim.Native.Nat.{ℕ, zero, suc, ◌+◌, ◌-◌, ◌*◌, ◌^◌, ◌≤◌, ◌<◌}
+use Prim.Native.Nat.{ℕ, zero, suc, ◌+◌, ◌-◌, ◌*◌, ◌≤◌, ◌<◌}
 use native.Mathlib.Numerals.{add-one}
 use native.Mathlib.Omega.{arith}
 use mathlib.Core.Path.{◌≡◌, refl, sym, ap, ◌∙◌, subst}
 use mathlib.Core.Bool.{Bool, true, false, cond}
 use mathlib.Core.List.Memᴰ
-use mathlib.Core.List.{List, [], ◌∷◌, ◌++◌}
-use lib.ListN.{length, take, drop, get_or, set, replicate, drop_of_length-le, length-set}
+use mathlib.Core.List.{List, [], ◌∷◌}
+use lib.ListN.{length, take, drop, get_or, set, replicate, drop_of_length-le}
 use lib.Seq.{sets, drop-cons, take-append-le, take_all, length-take-le, get_or-take}
 use borrow.Author.Tests.{lt-ltb, le-ltb}
 use Rattle.limits.specs.Limits.{max_path, dir_width, last_counter}
@@ -19,7 +19,7 @@ use Rattle.slot_rows.specs.Rows as Rows
 use Rattle.slot_rows.proofs.InBuffers.{length_rows}
 use Rattle.dir_rows.specs.Dirs.{absent, joined, registered}
 use Rattle.dir_rows.specs.Rows.{dir_row, dirs_of, flat_dirs, FlatDirs, Short}
-use Rattle.dir_rows.proofs.InBuffer.{row_wide, length_dirs, dirs_short, dirs_of_lem, dirs_long}
+use Rattle.dir_rows.proofs.InBuffer.{row_wide, length_dirs, dirs_short, dirs_of_lem}
 use Rattle.dir_rows.proofs.Joined.{joined_short}
 use Rattle.dir_rows.proofs.Registering.{length_registered, ancestors_short}
 use Rattle.pool_state.specs.declared.Pool.{Pool}

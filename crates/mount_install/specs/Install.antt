@@ -1,6 +1,6 @@
 -- What a mount makes of the rows that it has staged, in the words of survey's Staged: 01, "Mount, adopt". A new slot's row is bound where its
 -- header is a claim, and zero where not.
-use Rattle.std.specs.Prelude.{ℕ, ◌+◌, ◌^◌, ◌≤◌, ◌≡◌, true, false, cond, List, [], ◌∷◌, leb, ltb, length, take, drop}
+use Rattle.std.specs.Prelude.{ℕ, ◌+◌, ◌≤◌, ◌≡◌, true, false, cond, List, [], ◌∷◌, leb, ltb, length, take, drop}
 use Rattle.limits.specs.Limits.{last_counter}
 use Rattle.lists.specs.Lends.{Run}
 use Rattle.slot_rows.specs.Rows.{Row, rows_of, flat_nums, flat_names}

@@ -1,5 +1,5 @@
 -- Headers as rows of the table, and rows as claims: how a survey lies in the lent buffers. 01, "Mount, adopt".
-use Rattle.std.specs.Prelude.{ℕ, suc, ◌^◌, max, min, cond, List, [], ◌∷◌, map, eqb, leb, length, take, drop}
+use Rattle.std.specs.Prelude.{ℕ, suc, max, min, cond, List, [], ◌∷◌, map, eqb, leb, length, take, drop}
 use Rattle.limits.specs.Limits.{last_counter}
 use Rattle.slot_rows.specs.Rows.{Row, unbound, bound, none, at, find}
 use Rattle.mount_survey.specs.Heads.{Head, absent, idle, claim}

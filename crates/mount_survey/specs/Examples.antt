@@ -2,11 +2,11 @@
 use Rattle.std.specs.Prelude.{◌≡◌, refl, [], ◌∷◌, false}
 use Rattle.path.specs.Path.{same_path, components, split, cut, grow, names, idle, opening, ancestors, fronts, join, slash}
 use Rattle.lists.specs.Same.{same}
-use Rattle.slot_rows.specs.Rows.{file, unbound, bound, none, holds, find}
+use Rattle.slot_rows.specs.Rows.{file, bound, none, holds, find}
 use Rattle.dir_rows.specs.Dirs.{joined, absent, has_path}
 use Rattle.mount_survey.specs.Heads as Heads
 use Rattle.mount_survey.specs.Heads.{claim}
-use Rattle.mount_survey.specs.Survey.{Survey, survey, step, scan}
+use Rattle.mount_survey.specs.Survey.{survey, step, scan}
 
 -- five slots claim `a` under generations 5, 7, 6, 9 and 9: slot 3 holds it, the others lose in this order
 five_claims : scan (claim (97 ∷ []) 5 0 ∷ claim (97 ∷ []) 7 0 ∷ claim (97 ∷ []) 6 0 ∷ claim (97 ∷ []) 9 0 ∷ claim (97 ∷ []) 9 0 ∷ []) (survey [] [] [] [] 1)

@@ -1,5 +1,5 @@
 -- Pools and their buffers: the view of a flat form, what a pool's buffers are, and what the queue's calls make of them.
-use Rattle.std.specs.Prelude.{ℕ, zero, suc, ◌+◌, ◌-◌, ◌^◌, ◌≤◌, ◌<◌, ◌≡◌, refl, ◌⊎◌, List, [], ◌∷◌, ◌++◌, false, take, drop, get_or, set, replicate}
+use Rattle.std.specs.Prelude.{ℕ, suc, ◌+◌, ◌-◌, ◌≤◌, ◌<◌, ◌≡◌, refl, List, [], ◌∷◌, ◌++◌, false, take, drop, get_or, replicate}
 use Rattle.std.proofs.Common.{sym, ap₂, ◌∙◌, subst, append_assoc, arith, add-one, take-suc-set}
 use Rattle.std.proofs.Math.Path.{ap}
 use Rattle.std.proofs.Math.Logic.{⊎_elim}

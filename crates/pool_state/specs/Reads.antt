@@ -1,8 +1,8 @@
 -- A pool for a reader who thinks in buffers: plain facts of cells and counts that follow from `IsPool`.
-use Rattle.std.specs.Prelude.{ℕ, zero, suc, ◌+◌, ◌-◌, ◌*◌, ◌^◌, ◌≤◌, ◌<◌, ◌≡◌, refl, Bool, true, false}
+use Rattle.std.specs.Prelude.{ℕ, ◌+◌, ◌*◌, ◌≤◌, ◌<◌, ◌≡◌, refl, Bool, true, false}
 use Rattle.std.proofs.Common.{sym, ◌∙◌, arith}
 use Rattle.std.proofs.Math.Path.{ap}
-use mathlib.Core.List.{List, [], ◌∷◌}
+use mathlib.Core.List.{List}
 use Rattle.std.proofs.Math.ListN.{length, get_or, get_or-eq_default}
 use Rattle.limits.specs.Limits.{max_path, row_width, dir_width, last_counter}
 use Rattle.lists.specs.Blocks.{pad, cat, length_pad, get_or_pad, length_cat, flat_at}
@@ -12,7 +12,7 @@ use Rattle.slot_rows.proofs.InBuffers.{nums_wide, name_wide, length_rows, nums_l
 use Rattle.dir_rows.specs.Rows.{dir_row, dirs_of, flat_dirs, FlatDirs}
 use Rattle.dir_rows.proofs.InBuffer.{row_wide, length_dirs, dirs_long}
 use Rattle.pool_state.specs.declared.Pool.{Pool}
-use Rattle.pool_state.specs.State.{Bufs, queue_of, view, pool_of, flat, IsPool}
+use Rattle.pool_state.specs.State.{Bufs, queue_of, view, pool_of, IsPool}
 use Rattle.pool_state.specs.InBuffers.{queue_few, pool_canon, pool_rows, pool_dirs}
 
 -- The mark of row i, and its path's length.

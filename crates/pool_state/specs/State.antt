@@ -1,5 +1,5 @@
 -- A pool (01, "A pool"): what it holds, what is always true of that, and how it lies in the lent buffers.
-use Rattle.std.specs.Prelude.{ℕ, ◌^◌, ◌≤◌, ◌<◌, ◌≡◌, List, true, false, length, take}
+use Rattle.std.specs.Prelude.{ℕ, ◌≤◌, ◌<◌, ◌≡◌, List, true, false, length, take}
 use Rattle.limits.specs.Limits.{max_path, last_counter}
 use Rattle.lists.specs.Lends.{Run}
 use Rattle.lists.specs.Blocks.{pad}

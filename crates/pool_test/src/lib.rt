@@ -22,6 +22,7 @@ use pool_state::Pool;
 // ---- sizes and zeros
 
 // Whether the record's counts are those of a pool with buffers of these lengths.
+#[tactic(auto, unfolding(crate::specs::Test::sizes_ok))]
 fn sizes_ok(pool: Pool, nums: usize, names: usize, dirs: usize) -> bool
     ensures { result ≡ sizes_ok pool nums names dirs }
 {

@@ -24,8 +24,8 @@ as-chosen plan g h i e k d x q = q ∙ ap (λ (y : Chosen). mounted (mount_m pla
 pub mount_rows-d-requires : goal.mount_rows-d-requires
 unfolding takes_of
 mount_rows-d-requires c =
-    let all = rw c.choose-chosen.ensures (mounts_on _ _ _ _ _ _ c.requires c.in-Mount.is refl) in
-    record { shape = all.0; nums_len = all.1 }
+    let m = mounts_on _ _ _ _ _ _ c.requires c.in-Mount.is refl in
+    record { shape = rw c.choose-chosen.ensures m.0; nums_len = rw c.choose-chosen.ensures m.1 }
 
 pub returns-in-Mount : goal.returns-in-Mount
 unfolding inner_m
@@ -99,7 +99,8 @@ on_path-requires-clause-passed c =
 
 pub on_path-requires-clause-path : goal.on_path-requires-clause-path
 on_path-requires-clause-path c =
-    is_on_path c.args.call c.in_default.keys8
+    let n = c.in_default in
+    is_on_path _ n.not-Mount n.not-Adopt n.not-ReadAt n.not-WriteAt n.not-SetLen n.not-FileLen n.not-Sync
 
 pub returns-in_default : goal.returns-in_default
 returns-in_default c =

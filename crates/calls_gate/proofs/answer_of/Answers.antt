@@ -71,5 +71,5 @@ returns-in-12 c =
 
 pub returns-in_default : goal.returns-in_default
 returns-in_default c =
-    let n = c.in_default in
-    none_before _ n.not-0 n.not-1 n.not-2 n.not-3 n.not-4 n.not-5 n.not-6 n.not-7 n.not-8 n.not-9 n.not-10 n.not-11 n.not-12
+    let r = c.in_default.in_default-own.rest in
+    none_before _ r.0.0.0.0.0.0.0.0.0.0.0.0.1 r.0.0.0.0.0.0.0.0.0.0.0.1 r.0.0.0.0.0.0.0.0.0.0.1 r.0.0.0.0.0.0.0.0.0.1 r.0.0.0.0.0.0.0.0.1 r.0.0.0.0.0.0.0.1 r.0.0.0.0.0.0.1 r.0.0.0.0.0.1 r.0.0.0.0.1 r.0.0.0.1 r.0.0.1 r.0.1 r.1

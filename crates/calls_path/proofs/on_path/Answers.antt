@@ -104,4 +104,5 @@ returns-in-Metadata c =
 
 pub returns-in_default : goal.returns-in_default
 returns-in_default c =
-    absurd (no_other c.args.call c.in_default.keys10 c.requires.path)
+    let n = c.in_default in
+    absurd (no_other _ n.not-OpenWrite n.not-OpenRead n.not-SyncDir n.not-Rename n.not-RemoveFile n.not-CreateDirAll n.not-ReadDir n.not-Exists n.not-Metadata c.requires.path)

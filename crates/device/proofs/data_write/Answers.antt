@@ -13,5 +13,8 @@ pub returns : goal.returns
 unfolding data_write_m
 returns c =
     let a = c.args in
-    let w = c.write_at in record { same = w.ensures.same ∙ write_clamped a.plan.now a.geometry a.slot a.at a.src.now a.bytes.now a.phys.now a.place
-          c.file_pos-pos.ensures; kept = w.ensures.kept }
+    let w = c.write_at in record {
+      same = w.ensures.same ∙ write_clamped a.plan.now a.geometry a.slot a.at a.src.now a.bytes.now a.phys.now a.place
+          c.file_pos-pos.ensures;
+      kept = w.ensures.kept;
+    }

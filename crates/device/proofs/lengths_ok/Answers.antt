@@ -1,12 +1,8 @@
 -- The answer on all lengths is the answer on those that are left.
 use borrow.Author.Tests.{lt-leb, le-leb}
 use mathlib.Core.Path.{sym, ◌∙◌}
-use mathlib.Core.Bool.{Bool}
-use mathlib.Core.List.{List}
-use Prim.Native.Nat.{ℕ, ◌-◌}
 use native.Mathlib.Omega.{arith}
-use lib.ListN.{length, get_or}
-use lib.Dec.{leb}
+use lib.ListN.{length}
 use Rattle.lists.specs.Runs.{all_of, from_start, all_next, all_not, all_end}
 use Rattle.device.proofs.lengths_ok.Invariants.{fits}
 use Rattle.device.proofs.lengths_ok.Goals as goal

@@ -2,7 +2,6 @@
 use borrow.Author.Fill.{fill_more}
 use mathlib.Core.Path.{◌≡◌, refl}
 use mathlib.Core.List.{append-nil}
-use Prim.Native.Nat.{◌-◌}
 use native.Mathlib.Omega.{arith}
 use lib.ListN.{length, length-set}
 use lib.Seq.{drop-length}

@@ -1,5 +1,4 @@
 -- `dir_find` meets its contract by `has_hit`, `has_on` and `has_end`: what is left of the rows answers for all of them.
-use Prim.Native.Nat.{◌-◌}
 use mathlib.Core.Path.{sym, ◌∙◌, ap}
 use native.Mathlib.Omega.{arith}
 use Rattle.path.specs.Path.{same_path}

@@ -1,5 +1,4 @@
 -- `fnv1a32` meets its contract by `turn`: the state, taken on over the bytes left, is always the answer.
-use Prim.Native.Nat.{◌-◌}
 use mathlib.Core.Path.{sym, ◌∙◌}
 use native.Mathlib.Omega.{arith}
 use lib.ListN.{drop_of_length-le}

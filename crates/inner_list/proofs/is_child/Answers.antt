@@ -8,29 +8,26 @@ use Rattle.inner_list.proofs.is_child.Goals as goal
 pub overflow_mul-from : goal.overflow_mul-from
 overflow_mul-from c =
     omega (
-  arith,
-  (row_fits_lem _ _ _ _ c.requires.0 _ c.requires.1),
-  ((name_part _ _ _ _ c.requires.0 _ c.requires.1 _ c.path_len-k.ensures).0),
-
-)
+      arith,
+      (row_fits_lem _ _ _ _ c.requires.0 _ c.requires.1),
+      ((name_part _ _ _ _ c.requires.0 _ c.requires.1 _ c.path_len-k.ensures).0),
+    )
 
 pub overflow_add-from : goal.overflow_add-from
 overflow_add-from c =
     omega (
-  arith,
-  (row_fits_lem _ _ _ _ c.requires.0 _ c.requires.1),
-  ((name_part _ _ _ _ c.requires.0 _ c.requires.1 _ c.path_len-k.ensures).0),
-
-)
+      arith,
+      (row_fits_lem _ _ _ _ c.requires.0 _ c.requires.1),
+      ((name_part _ _ _ _ c.requires.0 _ c.requires.1 _ c.path_len-k.ensures).0),
+    )
 
 pub slice_bounds-is_parent-end : goal.slice_bounds-is_parent-end
 slice_bounds-is_parent-end c =
     omega (
-  arith,
-  (row_fits_lem _ _ _ _ c.requires.0 _ c.requires.1),
-  ((name_part _ _ _ _ c.requires.0 _ c.requires.1 _ c.path_len-k.ensures).0),
-
-)
+      arith,
+      (row_fits_lem _ _ _ _ c.requires.0 _ c.requires.1),
+      ((name_part _ _ _ _ c.requires.0 _ c.requires.1 _ c.path_len-k.ensures).0),
+    )
 
 pub returns-then-is_bound : goal.returns-then-is_bound
 returns-then-is_bound c =

@@ -12,11 +12,10 @@ put_at-requires c =
 pub copy_in-requires : goal.copy_in-requires
 copy_in-requires c =
     omega (
-  arith,
-  c.put_at.auto.dst,
-  (length-set c.args.buf.now c.args.at c.args.kind),
-
-)
+      arith,
+      c.put_at.auto.dst,
+      (length-set c.args.buf.now c.args.at c.args.kind),
+    )
 
 pub shape_of-buf : goal.shape_of-buf
 shape_of-buf c =

@@ -1,5 +1,5 @@
 -- `get_le` meets its contract by `get_turn`: the number so far is that of the bytes passed, from the end.
-use Prim.Native.Nat.{◌≤◌, ◌-◌}
+use Prim.Native.Nat.{◌≤◌}
 use mathlib.Core.Path.{◌≡◌}
 use lib.ListN.{length, drop}
 use Rattle.le.specs.Le.{unle}

@@ -1,5 +1,5 @@
 -- The invariant: what is to be compared is what is left of both from `i` on.
-use Rattle.std.proofs.Common.{◌≡◌, ℕ, ◌+◌, ◌-◌, ◌<◌, ◌≤◌, List, length, get_or, drop, sym, refl, ◌∙◌, add-one, arith, drop_of_length-le, drop-cons}
+use Rattle.std.proofs.Common.{◌≡◌, ℕ, ◌+◌, ◌<◌, ◌≤◌, List, length, get_or, drop, sym, refl, ◌∙◌, add-one, arith, drop_of_length-le, drop-cons}
 use Rattle.lists.specs.Order.{lex, cmp_nat, byte_order, and_then, nat_less, nat_greater, nat_same}
 use Rattle.lists.specs.declared.Ordering.TheVariants.{Less, Equal, Greater}
 use Rattle.lists.proofs.compare.Goals as goal

@@ -20,20 +20,18 @@ release-s-requires c =
 pub overflow_add-i : goal.overflow_add-i
 overflow_add-i c =
     omega (
-  arith,
-  (c.loop-i-test.true),
-  (c.ranges.count),
-
-)
+      arith,
+      (c.loop-i-test.true),
+      (c.ranges.count),
+    )
 
 pub loop-i-smaller : goal.loop-i-smaller
 loop-i-smaller c =
     omega (
-  arith,
-  (c.loop-i-test.true),
-  (c.ranges.count),
-
-)
+      arith,
+      (c.loop-i-test.true),
+      (c.ranges.count),
+    )
 
 pub loop-i-preserved : goal.loop-i-preserved
 loop-i-preserved c =

@@ -1,5 +1,4 @@
 -- The invariant: what is left to queue gives the whole queue.
-use Prim.Native.Nat.{◌-◌}
 use mathlib.Core.Path.{refl}
 use Rattle.mount_install.proofs.Walks.{queueing_more, queueing_room, queueing_done}
 use native.Mathlib.Omega.{arith}

@@ -1,5 +1,4 @@
 -- Carried by the record `Going`: registering what is left gives the whole.
-use Prim.Native.Nat.{◌-◌}
 use mathlib.Core.Path.{sym, ◌∙◌}
 use Rattle.dir_rows.proofs.InBuffer.{dirs_long}
 use Rattle.mount_install.proofs.Walks.{going_start, going_more, going_flat, going_full, going_done}

@@ -1,5 +1,4 @@
 -- The invariant: unbinding the losers that are left gives the whole.
-use Prim.Native.Nat.{◌-◌}
 use mathlib.Core.Path.{◌≡◌, refl, sym, ◌∙◌}
 use lib.ListN.{length}
 use borrow.Author.Rules.{rules}

@@ -1,6 +1,5 @@
 -- The invariant `Finding`: the losers so far, and those of the rows ahead on top of the holders so far, are the losers.
 use mathlib.Core.Path.{sym}
-use Prim.Native.Nat.{◌-◌}
 use Rattle.slot_rows.proofs.InBuffers.{length_rows}
 use Rattle.mount_survey.proofs.Finding.{finding_start, finding_same, finding_more, finding_done}
 use native.Mathlib.Omega.{arith}

@@ -2,7 +2,6 @@
 use mathlib.Core.Path.{sym, ◌∙◌}
 use Rattle.mount_survey.proofs.Finding.{passed_more, passed_hit, passed_all}
 use Rattle.slot_rows.proofs.InBuffers.{length_rows}
-use Prim.Native.Nat.{◌-◌}
 use native.Mathlib.Omega.{arith}
 use Rattle.mount_survey.proofs.holder.Goals as goal
 

@@ -1,6 +1,5 @@
 -- The invariant `Stages`: the rows so far and the heads ahead are the whole.
 use mathlib.Core.Path.{sym, ◌∙◌}
-use Prim.Native.Nat.{◌-◌}
 use Rattle.slot_rows.proofs.InBuffers.{nums_long, names_long}
 use Rattle.mount_survey.proofs.Staging.{stages_start, stages_next, stages_held, stages_stop, stages_done}
 use native.Mathlib.Omega.{arith}

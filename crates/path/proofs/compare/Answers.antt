@@ -1,5 +1,5 @@
 -- The invariant: what is to be compared is what is left of both, joined alike. `cmp_differ` settles the first components that differ.
-use Rattle.std.proofs.Common.{◌-◌, false, sym, ◌∙◌, arith}
+use Rattle.std.proofs.Common.{false, sym, ◌∙◌, arith}
 use Rattle.path.proofs.Orders.{cmp_start, cmp_done, cmp_less, cmp_greater, cmp_differ, cmp_on}
 use Rattle.path.proofs.compare.Goals as goal
 

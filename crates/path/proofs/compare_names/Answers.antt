@@ -1,5 +1,5 @@
 -- The invariant: what is to be compared is what is left of both names from `i` on.
-use Rattle.std.proofs.Common.{◌-◌, sym, refl, ◌∙◌, arith}
+use Rattle.std.proofs.Common.{sym, refl, ◌∙◌, arith}
 use Rattle.lists.specs.Order.{nat_less, nat_greater, nat_same}
 use Rattle.path.proofs.Orders.{names_both, names_end, b_ends_less, b_ends_slash, b_ends_greater, a_ends_slash, a_ends_more, a_ends_less}
 use Rattle.path.proofs.compare_names.Goals as goal

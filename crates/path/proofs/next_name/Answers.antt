@@ -1,5 +1,5 @@
 -- The invariant: the components behind `i` are those behind `at`. `name_some` takes the next part that stays.
-use Rattle.std.proofs.Common.{◌-◌, ◌<◌, refl, ◌∙◌, arith}
+use Rattle.std.proofs.Common.{◌<◌, refl, ◌∙◌, arith}
 use Rattle.path.proofs.Walks.{part_some, rest_slash_at, rest_dot, idle_long, idle_byte, name_some, name_none}
 use Rattle.path.proofs.next_name.Goals as goal
 

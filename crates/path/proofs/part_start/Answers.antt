@@ -1,5 +1,5 @@
 -- The invariant: there is no slash from `a` to `e`.
-use Rattle.std.proofs.Common.{◌-◌, inl, inr, arith}
+use Rattle.std.proofs.Common.{inl, inr, arith}
 use Rattle.path.proofs.Backs.{starts_none, starts_more}
 use Rattle.path.proofs.part_start.Goals as goal
 

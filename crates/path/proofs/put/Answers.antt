@@ -1,5 +1,5 @@
 -- The invariant: `j` bytes are copied. `put_turn` copies one more.
-use Rattle.std.proofs.Common.{◌-◌, arith, length-set}
+use Rattle.std.proofs.Common.{arith, length-set}
 use lib.Seq.{paste-zero}
 use Rattle.path.proofs.Writes.{put_turn, put_all}
 use Rattle.path.proofs.put.Goals as goal

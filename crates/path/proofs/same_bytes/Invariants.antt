@@ -1,5 +1,5 @@
 -- The invariant: the answer is that for what stands before `i` in both. `words_next` passes eight bytes.
-use Rattle.std.proofs.Common.{◌≡◌, ◌-◌, ◌≤◌, take}
+use Rattle.std.proofs.Common.{◌≡◌, ◌≤◌, take}
 use Rattle.lists.specs.Same.{same_bytes}
 use Rattle.path.proofs.same_bytes.Given as goal
 

@@ -1,5 +1,5 @@
 -- The invariant: the answer is that for what is left of both from `i` on.
-use Rattle.std.proofs.Common.{◌-◌, refl, arith}
+use Rattle.std.proofs.Common.{refl, arith}
 use Rattle.path.proofs.Bytes.{bytes_next, bytes_differ, bytes_end}
 use Rattle.path.proofs.same_few.Goals as goal
 

@@ -1,5 +1,4 @@
 -- Carried by `moved_on`: behind turn i the first i cells have moved.
-use Prim.Native.Nat.{◌-◌}
 use borrow.Author.Rules.{rules}
 use lib.ListN.{length}
 use mathlib.Core.Path.{refl, ◌≡◌}

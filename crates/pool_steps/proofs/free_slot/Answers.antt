@@ -36,6 +36,6 @@ returns c =
     let same = ap (λ (x : Header). encoded x []) c.free-free.ensures in
     record {
       same = free_done _ _ _ _ _ _ _ _ _ same c.put_header-put.ensures.same _ c.if-last-ne0.false
-        c.data_truncate.ensures.same;
+          c.data_truncate.ensures.same;
       kept = c.data_truncate.ensures.kept;
     }

@@ -19,18 +19,16 @@ returns-then-k-p c =
 pub overflow_add-at-2 : goal.overflow_add-at-2
 overflow_add-at-2 c =
     omega (
-  arith,
-  (dir_short c.args.dirs.now c.args.j),
-
-)
+      arith,
+      (dir_short c.args.dirs.now c.args.j),
+    )
 
 pub slice_bounds-same_run-end : goal.slice_bounds-same_run-end
 slice_bounds-same_run-end c =
     omega (
-  arith,
-  (dir_short c.args.dirs.now c.args.j),
-
-)
+      arith,
+      (dir_short c.args.dirs.now c.args.j),
+    )
 
 pub same_run-requires : goal.same_run-requires
 same_run-requires c =

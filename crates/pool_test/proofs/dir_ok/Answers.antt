@@ -14,14 +14,13 @@ slice_bounds-seen_before-end c =
     omega (arith, dir_short c.args.dirs.now c.args.j)
 
 pub seen_before-requires : goal.seen_before-requires
-seen_before-requires c =
-    (
-      c.requires.0,
-      c.requires.1,
-      c.requires.2,
-      dir_part c.args.dirs.now c.args.j _
-          c.dir_len-k.ensures,
-    )
+seen_before-requires c = (
+  c.requires.0,
+  c.requires.1,
+  c.requires.2,
+  dir_part c.args.dirs.now c.args.j _
+      c.dir_len-k.ensures,
+)
 
 pub returns-then-seen_before : goal.returns-then-seen_before
 returns-then-seen_before c =
@@ -32,28 +31,25 @@ returns-then-seen_before c =
 pub overflow_add-at-3 : goal.overflow_add-at-3
 overflow_add-at-3 c =
     omega (
-  arith,
-  (dir_short c.args.dirs.now c.args.j),
-
-)
+      arith,
+      (dir_short c.args.dirs.now c.args.j),
+    )
 
 pub slice_bounds-up_held-end : goal.slice_bounds-up_held-end
 slice_bounds-up_held-end c =
     omega (
-  arith,
-  (dir_short c.args.dirs.now c.args.j),
-
-)
+      arith,
+      (dir_short c.args.dirs.now c.args.j),
+    )
 
 pub up_held-requires : goal.up_held-requires
-up_held-requires c =
-    (
-      c.requires.0,
-      c.requires.1,
-      c.requires.2,
-      dir_part c.args.dirs.now c.args.j _
-          c.dir_len-k.ensures,
-    )
+up_held-requires c = (
+  c.requires.0,
+  c.requires.1,
+  c.requires.2,
+  dir_part c.args.dirs.now c.args.j _
+      c.dir_len-k.ensures,
+)
 
 pub returns : goal.returns
 returns c =

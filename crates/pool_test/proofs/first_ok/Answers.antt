@@ -39,29 +39,26 @@ path_len-k-requires c =
 pub overflow_mul-from : goal.overflow_mul-from
 overflow_mul-from c =
     omega (
-  arith,
-  (row_fits_lem _ _ _ _ c.requires.0 _ c.requires.2),
-  ((name_part _ _ _ _ c.requires.0 _ c.requires.2 _ c.path_len-k.ensures).0),
-
-)
+      arith,
+      (row_fits_lem _ _ _ _ c.requires.0 _ c.requires.2),
+      ((name_part _ _ _ _ c.requires.0 _ c.requires.2 _ c.path_len-k.ensures).0),
+    )
 
 pub overflow_add-from : goal.overflow_add-from
 overflow_add-from c =
     omega (
-  arith,
-  (row_fits_lem _ _ _ _ c.requires.0 _ c.requires.2),
-  ((name_part _ _ _ _ c.requires.0 _ c.requires.2 _ c.path_len-k.ensures).0),
-
-)
+      arith,
+      (row_fits_lem _ _ _ _ c.requires.0 _ c.requires.2),
+      ((name_part _ _ _ _ c.requires.0 _ c.requires.2 _ c.path_len-k.ensures).0),
+    )
 
 pub slice_bounds-find_row-end : goal.slice_bounds-find_row-end
 slice_bounds-find_row-end c =
     omega (
-  arith,
-  (row_fits_lem _ _ _ _ c.requires.0 _ c.requires.2),
-  ((name_part _ _ _ _ c.requires.0 _ c.requires.2 _ c.path_len-k.ensures).0),
-
-)
+      arith,
+      (row_fits_lem _ _ _ _ c.requires.0 _ c.requires.2),
+      ((name_part _ _ _ _ c.requires.0 _ c.requires.2 _ c.path_len-k.ensures).0),
+    )
 
 pub find_row-requires : goal.find_row-requires
 find_row-requires c =

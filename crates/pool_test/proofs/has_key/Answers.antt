@@ -11,12 +11,11 @@ loop-j-init c =
 
 pub loop-j-preserved : goal.loop-j-preserved
 unfolding is_at
-loop-j-preserved c =
-    (
-      omega arith,
-      flag_turn (is_at c.args.keys.now c.args.f) c.args.k c.loop-j.j
-          c.loop-j.hit _ c.loop-j-test.true c.loop-j.invariant.1 c.struck-hit.ensures,
-    )
+loop-j-preserved c = (
+  omega arith,
+  flag_turn (is_at c.args.keys.now c.args.f) c.args.k c.loop-j.j
+      c.loop-j.hit _ c.loop-j-test.true c.loop-j.invariant.1 c.struck-hit.ensures,
+)
 
 pub returns : goal.returns
 returns c =

@@ -17,15 +17,14 @@ row_key-requires c =
     (c.requires.0, omega arith)
 
 pub loop-i-preserved : goal.loop-i-preserved
-loop-i-preserved c =
-    (
-      omega arith,
-      simp length-set c.loop-i.invariant.1,
-      keys_more key_of
-          (λ j. path_of (at (rows_of c.args.nums.now c.args.names.now c.args.n) j))
-          c.loop-i.keys c.loop-i.i _ c.loop-i.invariant.2 (omega arith)
-          c.row_key.ensures,
-    )
+loop-i-preserved c = (
+  omega arith,
+  simp length-set c.loop-i.invariant.1,
+  keys_more key_of
+      (λ j. path_of (at (rows_of c.args.nums.now c.args.names.now c.args.n) j))
+      c.loop-i.keys c.loop-i.i _ c.loop-i.invariant.2 (omega arith)
+      c.row_key.ensures,
+)
 
 pub shape_of-keys : goal.shape_of-keys
 shape_of-keys c =

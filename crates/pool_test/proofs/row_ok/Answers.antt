@@ -25,29 +25,26 @@ path_len-k-requires c =
 pub overflow_mul-from : goal.overflow_mul-from
 overflow_mul-from c =
     omega (
-  arith,
-  (row_fits_lem _ _ _ _ c.requires.0 _ c.requires.2),
-  ((name_part _ _ _ _ c.requires.0 _ c.requires.2 _ c.path_len-k.ensures).0),
-
-)
+      arith,
+      (row_fits_lem _ _ _ _ c.requires.0 _ c.requires.2),
+      ((name_part _ _ _ _ c.requires.0 _ c.requires.2 _ c.path_len-k.ensures).0),
+    )
 
 pub overflow_add-from : goal.overflow_add-from
 overflow_add-from c =
     omega (
-  arith,
-  (row_fits_lem _ _ _ _ c.requires.0 _ c.requires.2),
-  ((name_part _ _ _ _ c.requires.0 _ c.requires.2 _ c.path_len-k.ensures).0),
-
-)
+      arith,
+      (row_fits_lem _ _ _ _ c.requires.0 _ c.requires.2),
+      ((name_part _ _ _ _ c.requires.0 _ c.requires.2 _ c.path_len-k.ensures).0),
+    )
 
 pub slice_bounds-is_text-end : goal.slice_bounds-is_text-end
 slice_bounds-is_text-end c =
     omega (
-  arith,
-  (row_fits_lem _ _ _ _ c.requires.0 _ c.requires.2),
-  ((name_part _ _ _ _ c.requires.0 _ c.requires.2 _ c.path_len-k.ensures).0),
-
-)
+      arith,
+      (row_fits_lem _ _ _ _ c.requires.0 _ c.requires.2),
+      ((name_part _ _ _ _ c.requires.0 _ c.requires.2 _ c.path_len-k.ensures).0),
+    )
 
 pub returns-then-not-is_text : goal.returns-then-not-is_text
 unfolding row_ok

@@ -10,12 +10,11 @@ loop-i-init c =
     (omega arith, refl)
 
 pub loop-i-preserved : goal.loop-i-preserved
-loop-i-preserved c =
-    (
-      omega arith,
-      same_turn c.args.a.now c.args.b.now c.loop-i.i c.loop-i.same _ (omega arith)
-          (omega arith) c.loop-i.invariant.1 c.still-same.ensures,
-    )
+loop-i-preserved c = (
+  omega arith,
+  same_turn c.args.a.now c.args.b.now c.loop-i.i c.loop-i.same _ (omega arith)
+      (omega arith) c.loop-i.invariant.1 c.still-same.ensures,
+)
 
 pub returns : goal.returns
 returns c =

@@ -11,9 +11,8 @@ returns-then-not-has_key c =
     (sym c.has_key.ensures ∙ c.if-not-has_key.true)
 
 pub has_dir-requires : goal.has_dir-requires
-has_dir-requires c =
-    (
-      omega arith,
-      keys_fewer _ _ _ _ _ c.requires.1 (omega arith),
-      c.requires.1.key _ c.requires.2 ∙ ap text_key (sym c.requires.3),
-    )
+has_dir-requires c = (
+  omega arith,
+  keys_fewer _ _ _ _ _ c.requires.1 (omega arith),
+  c.requires.1.key _ c.requires.2 ∙ ap text_key (sym c.requires.3),
+)

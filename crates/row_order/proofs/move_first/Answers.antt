@@ -12,13 +12,12 @@ loop-j-init c =
     (omega arith, refl, refl)
 
 pub loop-j-preserved : goal.loop-j-preserved
-loop-j-preserved c =
-    (
-      omega arith,
-      simp length-set c.loop-j.invariant.1,
-      move_on c.args.spans.now c.loop-j.spans
-          c.loop-j.j c.args.k (omega arith) (omega arith) c.loop-j.invariant.2,
-    )
+loop-j-preserved c = (
+  omega arith,
+  simp length-set c.loop-j.invariant.1,
+  move_on c.args.spans.now c.loop-j.spans
+      c.loop-j.j c.args.k (omega arith) (omega arith) c.loop-j.invariant.2,
+)
 
 pub shape_of-spans : goal.shape_of-spans
 shape_of-spans c =

@@ -28,12 +28,11 @@ bounds-spans-mid c =
     omega (arith, c.loop-low.invariant.fits, length-drop 1 c.args.spans.now)
 
 pub comes_before-requires : goal.comes_before-requires
-comes_before-requires c =
-    (
-      inside_get _ _ _ c.requires.0 c.requires.1,
-      inside_get _ _ _ c.requires.0
-          (omega (arith, c.loop-low.invariant.fits, length-drop 1 c.args.spans.now)),
-    )
+comes_before-requires c = (
+  inside_get _ _ _ c.requires.0 c.requires.1,
+  inside_get _ _ _ c.requires.0
+      (omega (arith, c.loop-low.invariant.fits, length-drop 1 c.args.spans.now)),
+)
 
 pub loop-low-preserved-then-comes_before : goal.loop-low-preserved-then-comes_before
 loop-low-preserved-then-comes_before c =
@@ -43,11 +42,10 @@ loop-low-preserved-then-comes_before c =
 pub overflow_add-low : goal.overflow_add-low
 overflow_add-low c =
     omega (
-  arith,
-  c.loop-low.invariant.fits,
-  (length-drop 1 c.args.spans.now),
-
-)
+      arith,
+      c.loop-low.invariant.fits,
+      (length-drop 1 c.args.spans.now),
+    )
 
 pub loop-low-preserved : goal.loop-low-preserved
 loop-low-preserved c =

@@ -1,6 +1,5 @@
 -- Carried by `put_turn`: the numbers that are still to come, laid over the rest, make the whole of it.
 use mathlib.Core.Path.{◌≡◌, refl}
-use Prim.Native.Nat.{◌-◌}
 use native.Mathlib.Omega.{arith}
 use borrow.Author.Rules.{rules}
 use lib.ListN.{length}

@@ -1,6 +1,5 @@
 -- Carried by `spread_turn`: the rows that are still to come, laid over the rest, make the whole of it.
 use mathlib.Core.Path.{◌∙◌, ap, refl}
-use Prim.Native.Nat.{◌-◌}
 use native.Mathlib.Omega.{arith}
 use lib.ListN.{length, length-set, length-replicate}
 use Rattle.slot_records.specs.Records.{none}

@@ -1,6 +1,5 @@
 -- Carried by `copy_turn`: what is still to be copied makes the whole of it.
 use lib.ListN.{length-set}
-use Prim.Native.Nat.{◌-◌}
 use native.Mathlib.Nat.{add-zero}
 use Rattle.lists.specs.Stores.{copy_turn, copy_end}
 use mathlib.Core.Path.{refl, sym, ◌∙◌}

@@ -3,7 +3,6 @@ use native.Mathlib.Omega.{arith}
 use mathlib.Core.Path.{sym, ◌∙◌}
 use Rattle.slot_rows.proofs.InBuffers.{length_rows}
 use Rattle.slot_rows.proofs.Search.{found_here, found_later, found_none}
-use Prim.Native.Nat.{◌-◌}
 use native.Mathlib.Nat.{zero-add}
 use Rattle.slot_rows.proofs.find_row.Goals as goal
 

@@ -1,6 +1,5 @@
 -- Carried by `zero_turn`: what is still to be zeroed makes the whole of it.
 use lib.ListN.{length-set}
-use Prim.Native.Nat.{◌-◌}
 use native.Mathlib.Nat.{add-zero, sub-zero}
 use Rattle.lists.specs.Stores.{zero_turn, zero_end}
 use mathlib.Core.Path.{refl, sym, ◌∙◌}

@@ -1,6 +1,5 @@
 -- `walk` meets its contract by `walk_turn`: from d, the bytes left lead where all of s leads from between. Assumes nothing.
 use mathlib.Core.Path.{◌∙◌}
-use Prim.Native.Nat.{◌-◌}
 use lib.ListN.{drop_of_length-le}
 use Rattle.text.specs.Text.{walk_of}
 use Rattle.text.proofs.Turns.{walk_turn}
@@ -12,13 +11,12 @@ loop-i-init c =
     (omega arith, rw c.owed-d.ensures)
 
 pub loop-i-preserved : goal.loop-i-preserved
-loop-i-preserved c =
-    (
-      omega arith,
-      rw c.step-d.ensures
-          (walk_turn c.loop-i.d c.args.s.now c.loop-i.i c.loop-i-test.true
-          ∙ c.loop-i.invariant.1),
-    )
+loop-i-preserved c = (
+  omega arith,
+  rw c.step-d.ensures
+      (walk_turn c.loop-i.d c.args.s.now c.loop-i.i c.loop-i-test.true
+      ∙ c.loop-i.invariant.1),
+)
 
 pub returns : goal.returns
 unfolding walk_of

@@ -40,7 +40,7 @@ slice_bounds-fnv1a32-end c =
 pub returns-then-get_at-check : goal.returns-then-get_at-check
 returns-then-get_at-check c =
     let made : c.fnv1a32-check.result ≡ check_of c.args.block =
-        check_is c.args.block _ (path_part c.args.block c.get_at-path_len.ensures) c.fnv1a32-part.ensures c.fnv1a32-check.ensures in
+    check_is c.args.block _ (path_part c.args.block c.get_at-path_len.ensures) c.fnv1a32-part.ensures c.fnv1a32-check.ensures in
     other_check c.args.block _ c.if-n-lt-LEN.false (magic_same c.args.block c.get_at.ensures c.if-get_at-ne-MAGIC.false)
     (path_fits c.args.block c.get_at-path_len.ensures c.if-path_len-gt-MAX_PATH.false)
     (λ e. c.if-get_at-check.true (c.get_at-2.ensures ∙ e ∙ sym made))
@@ -49,7 +49,7 @@ pub returns-then-is_text : goal.returns-then-is_text
 returns-then-is_text c =
     let b = c.args.block in
     let made : c.fnv1a32-check.result ≡ check_of b =
-        check_is b _ (path_part b c.get_at-path_len.ensures) c.fnv1a32-part.ensures c.fnv1a32-check.ensures in
+    check_is b _ (path_part b c.get_at-path_len.ensures) c.fnv1a32-part.ensures c.fnv1a32-check.ensures in
     let text : c.is_text.result ≡ is_text (path_of b) = c.is_text.ensures ∙ ap is_text (path_part b c.get_at-path_len.ensures) in
     sym
     ((found b _ _).1
@@ -68,7 +68,7 @@ pub returns-else-is_text : goal.returns-else-is_text
 returns-else-is_text c =
     let b = c.args.block in
     let made : c.fnv1a32-check.result ≡ check_of b =
-        check_is b _ (path_part b c.get_at-path_len.ensures) c.fnv1a32-part.ensures c.fnv1a32-check.ensures in
+    check_is b _ (path_part b c.get_at-path_len.ensures) c.fnv1a32-part.ensures c.fnv1a32-check.ensures in
     let text : c.is_text.result ≡ is_text (path_of b) = c.is_text.ensures ∙ ap is_text (path_part b c.get_at-path_len.ensures) in
     no_text_lem _ _ c.if-n-lt-LEN.false (magic_same b c.get_at.ensures c.if-get_at-ne-MAGIC.false)
     (path_fits b c.get_at-path_len.ensures c.if-path_len-gt-MAX_PATH.false)
