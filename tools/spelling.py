@@ -158,7 +158,8 @@ def main():
         t = open(f).read()
         skip = imported(t, crates)
         new = renamed(t, table, crates)
-        clash = sorted({table[o] for o in table if table[o] in skip and re.search(r"(?<![\w-])" + re.escape(o) + r"(?![\w-])", t) and o not in skip})
+        cited = lambda o: re.search(r"(?<![\w-])" + re.escape(o) + r"(?![\w-])", t)
+        clash = sorted({table[o] for o in table if table[o] in skip and o not in skip and cited(o)})
         if clash:
             print("%s: taken by a library: %s" % (f, ", ".join(clash)))
             bad += 1

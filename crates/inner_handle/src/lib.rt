@@ -208,7 +208,8 @@ pub fn set_len(
 ) -> Ended
     requires { Ready geometry (lent (dev bytes.old phys.old place) (bufs pool nums.old names.now dirs.now)) }
     ensures { outcome result.out tt (after bytes.new phys.new result.place nums.new names.now dirs.now pool)
-        ≡ flat_o (set_len_m plan.now geometry slot generation len (view_w (before bytes.old phys.old place nums.old names.now dirs.now pool))) }
+        ≡ flat_o (set_len_m plan.now geometry slot generation len
+        (view_w (before bytes.old phys.old place nums.old names.now dirs.now pool))) }
 {
     let cap = pool.chosen.rows;
     let n = pool.held;

@@ -144,7 +144,8 @@ fn reopen(
 ) -> Writer
     requires ready { Ready geometry (lent (dev bytes.old phys.old place) (bufs pool nums.old names.now dirs.now)) }
     requires i_lt_held { (i < pool.held) × (is_bound (at (rows_of nums.old names.now pool.held) i) ≡ true) }
-    ensures { outcome result.out (handle result.slot result.generation result.len) (after bytes.new phys.new result.place nums.new names.now dirs.now result.pool)
+    ensures { outcome result.out (handle result.slot result.generation result.len)
+        (after bytes.new phys.new result.place nums.new names.now dirs.now result.pool)
         ≡ flat_o (reopen_m plan.now geometry i keep (view_w (before bytes.old phys.old place nums.old names.now dirs.now pool))) }
 {
     let cap = pool.chosen.rows;
@@ -193,7 +194,8 @@ fn create(
     requires ready { Ready geometry (lent (dev bytes.old phys.old place) (bufs pool nums.old names.old dirs.old)) }
     requires free_nonzero { (0 < pool.free) × (pool.counter < last_counter) × (length path.now ≤ max_path) }
     requires path_len_bound { length (registered (dirs_of dirs.old pool.dirs) path.now) ≤ pool.chosen.dir_rows }
-    ensures { outcome result.out (handle result.slot result.generation result.len) (after bytes.new phys.new result.place nums.new names.new dirs.new result.pool)
+    ensures { outcome result.out (handle result.slot result.generation result.len)
+        (after bytes.new phys.new result.place nums.new names.new dirs.new result.pool)
         ≡ flat_o (create_m plan.now geometry path.now (view_w (before bytes.old phys.old place nums.old names.old dirs.old pool))) }
 {
     let generation = pool.counter;
@@ -231,7 +233,8 @@ pub fn open_write(
     keep: bool,
 ) -> Writer
     requires { Ready geometry (lent (dev bytes.old phys.old place) (bufs pool nums.old names.old dirs.old)) }
-    ensures { outcome result.out (handle result.slot result.generation result.len) (after bytes.new phys.new result.place nums.new names.new dirs.new result.pool)
+    ensures { outcome result.out (handle result.slot result.generation result.len)
+        (after bytes.new phys.new result.place nums.new names.new dirs.new result.pool)
         ≡ flat_o (open_write_m plan.now geometry path.now keep
         (view_w (before bytes.old phys.old place nums.old names.old dirs.old pool))) }
 {

@@ -1,25 +1,25 @@
 -- What adopt makes of what its parts came to: one law a way out, over plain values.
-use Prim.Native.Nat.{ℕ, suc, ◌+◌, ◌-◌, ◌^◌, ◌≤◌, ◌<◌, max}
+use Prim.Native.Nat.{ℕ, ◌+◌, ◌-◌, ◌≤◌, ◌<◌, max}
 use native.Mathlib.Omega.{arith}
 use mathlib.Core.Path.{◌≡◌, refl, sym, ap, ap₂, ◌∙◌, subst}
 use mathlib.Core.Bool.{Bool, true, false, cond, ◌||◌}
-use mathlib.Core.List.{List, [], ◌∷◌, ◌++◌, map}
-use lib.Dec.{ltb, eqb}
+use mathlib.Core.List.{List, [], ◌++◌, map}
+use lib.Dec.{ltb}
 use lib.ListN.{length, take, drop, length-append, length-map}
 use lib.Seq.{take_at, drop_at}
-use borrow.Author.Tests.{lt-ltb, le-ltb, ltb-true, ltb-false}
+use borrow.Author.Tests.{lt-ltb, le-ltb, ltb-false}
 use Rattle.limits.specs.Limits.{last_counter}
 use Rattle.lists.specs.Blocks.{pad, take_pad}
 use Rattle.lists.specs.Distinct.{In}
 use Rattle.device.specs.declared.Place.{Place}
 use Rattle.device.specs.declared.Geometry.{Geometry}
-use Rattle.device.specs.Device.{Dev, dev, Shape}
+use Rattle.device.specs.Device.{dev, Shape}
 use Rattle.slot_rows.specs.Rows.{Row, rows_of, flat_nums, flat_names, Flat}
 use Rattle.slot_rows.proofs.InBuffers.{length_rows}
 use Rattle.dir_rows.specs.Rows.{dirs_of, flat_dirs, FlatDirs}
 use Rattle.dir_rows.proofs.InBuffer.{dirs_of_lem}
 use Rattle.pool_state.specs.declared.Pool.{Pool}
-use Rattle.pool_state.specs.State.{State, Valid, Bufs, bufs, view, pool_of, flat, IsPool}
+use Rattle.pool_state.specs.State.{Bufs, bufs, view, pool_of, flat}
 use Rattle.pool_state.specs.InBuffers.{pool_canon, pool_rows, pool_dirs, queue_fits, queue_few, together}
 use Rattle.pool_steps.specs.World.{World, world, Lent, lent, view_w, flat_w, Fit, Ready}
 use Rattle.pool_steps.proofs.Stays.{world_is, ready_fit, lent_stays}
@@ -27,14 +27,14 @@ use Rattle.pool_steps.specs.Outcome.{only, flat_o}
 use Rattle.mount_survey.specs.Staged.{claimed, spares, vacated}
 use Rattle.mount_survey.proofs.Surveyed.{scan_rows, scan_length, scan_free, scan_dirs, asked_room, asked_over, asked_same}
 use Rattle.mount_install.specs.Install.{refusal, Three, three, Taken, unstaged, pushed_all, holding}
-use Rattle.mount_install.proofs.StagedRows.{queued_all, push_all}
+use Rattle.mount_install.proofs.StagedRows.{push_all}
 use Rattle.mount_survey.specs.Heads.{Head, Reads, reads_m}
 use Rattle.mount_survey.specs.Survey.{Survey, survey, scan}
 use Rattle.mount_survey.specs.Claims.{row_of, asked_of, losers_of}
 use Rattle.mount_survey.proofs.LostClaims.{scan_losers}
 use Rattle.mount.specs.Mount.{begin, installed, drain, Due, moved, settle, after_reads, too_many, adopt_m}
 use Rattle.mount.proofs.SurveyKeeps.{reads_fine, Keeps}
-use Rattle.mount.proofs.Stays.{room_for, scanned, installed_fit, losers_due}
+use Rattle.mount.proofs.Stays.{scanned, installed_fit, losers_due}
 
 -- ---- 8, 9, or done
 

@@ -2,9 +2,7 @@
 use Prim.Native.Nat.{ℕ, ◌+◌, ◌*◌, ◌≤◌}
 use native.Mathlib.Omega.{arith}
 use mathlib.Core.Path.{◌≡◌, refl, sym, ap, ap₂, ◌∙◌}
-use mathlib.Core.Bool.{Bool, cond}
 use mathlib.Core.List.{List, [], append-nil}
-use lib.Dec.{eqb}
 use lib.ListN.{length, replicate, length-replicate}
 use lib.Seq.{sets, sets-eq, drop-length}
 use borrow.Author.Tests.{eq-eqb, ne_eqb}
@@ -14,7 +12,6 @@ use Rattle.device.specs.declared.Geometry.{Geometry}
 use Rattle.device.specs.Device.{Dev, Shape}
 use Rattle.slot_rows.specs.Rows.{rows_of, flat_nums, flat_names}
 use Rattle.slot_rows.proofs.InBuffers.{flat_zero}
-use Rattle.dir_rows.specs.Rows.{flat_dirs}
 use Rattle.dir_rows.proofs.InBuffer.{flat_none}
 use Rattle.pool_state.specs.declared.Chosen.{Chosen}
 use Rattle.pool_state.specs.declared.Pool.{Pool}

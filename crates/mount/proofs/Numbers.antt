@@ -1,5 +1,5 @@
 -- The number that a mount or an adoption comes to is one of 01's.
-use Prim.Native.Nat.{ℕ, ◌+◌, ◌^◌}
+use Prim.Native.Nat.{ℕ, ◌+◌}
 use native.Mathlib.Omega.{arith}
 use mathlib.Core.List.{List}
 use lib.Dec.{ltb}

@@ -7,31 +7,31 @@ use mathlib.Core.Logic.{◌≢◌, ◌⊎◌, inl, inr, ⊎_elim}
 use mathlib.Core.Bool.{Bool, true, false, cond, false≢true, ◌&&◌}
 use mathlib.Core.List.{List, [], ◌∷◌, ◌++◌, append-nil, append_assoc}
 use lib.Dec.{leb, ltb, eqb}
-use lib.ListN.{length, take, drop, set, length-append, length-set, length-take}
+use lib.ListN.{length, set, length-append, length-set, length-take}
 use lib.Seq.{get_or-set_same, get_or-set_other, get_or-append_seam}
 use Rattle.limits.specs.Limits.{max_path}
 use Rattle.lists.specs.Distinct.{In, Distinct, snoc_in, distinct_snoc}
 use Rattle.text.specs.Text.{is_text}
 use Rattle.text.specs.Text as Text
 use Rattle.text.proofs.Grammar.{text_complete}
-use Rattle.path.specs.Path.{components, same_path, ancestors}
+use Rattle.path.specs.Path.{components, ancestors}
 use Rattle.path.specs.Theorems.{same_path_lem, normal_short}
 use Rattle.header.specs.declared.Header.{Header}
 use Rattle.header.specs.declared.Decoded.{Decoded}
 use Rattle.header.specs.declared.Decoded.TheVariants.{Absent, Found}
 use Rattle.header.specs.Block.{decoded}
 use Rattle.header.specs.Block as Block
-use Rattle.header.proofs.BlockLaws.{Passed, found}
+use Rattle.header.proofs.BlockLaws.{found}
 use Rattle.device.specs.declared.Geometry.{Geometry}
 use Rattle.device.specs.Device.{Dev, given, turn}
 use Rattle.slot_rows.specs.Rows.{Row, unbound, bound, none, at, is_bound, path_of, gen_of, holds, find}
-use Rattle.slot_rows.proofs.Finding.{find_holds, find_none, find_le, holds_path, holds_bound, holds_unbound}
+use Rattle.slot_rows.proofs.Finding.{find_holds, find_none, holds_path, holds_bound}
 use Rattle.dir_rows.specs.Dirs.{registered}
 use Rattle.dir_rows.proofs.Joined.{joined_short}
 use Rattle.dir_rows.proofs.Registering.{registered_dirs, ancestors_short}
 use Rattle.pool_state.specs.State.{Slots, Directories}
 use Rattle.mount_survey.specs.Heads.{Head, absent, idle, claim, said_of, head_of, Reads, behind, looked, reads_m}
-use Rattle.mount_survey.specs.Survey.{Survey, survey, claim_row, spare, enter, rival, meet, step, scan}
+use Rattle.mount_survey.specs.Survey.{Survey, claim_row, spare, enter, rival, meet, step, scan}
 
 -- A bound row is one of the rows.
 bound_inside : (rs : List Row) (j : ℕ) → is_bound (at rs j) ≡ true → j < length rs

@@ -1,5 +1,5 @@
 -- Mount and adopt: 01, "Mount, adopt" and "Numbers that come back".
-use Rattle.std.specs.Prelude.{ℕ, zero, suc, ◌+◌, ◌-◌, ◌*◌, ◌^◌, ◌≤◌, ◌<◌, Bool, true, false, cond, ◌||◌, List, [], ◌∷◌, ◌++◌, ltb, eqb, length, replicate}
+use Rattle.std.specs.Prelude.{ℕ, ◌+◌, ◌-◌, ◌*◌, ◌≤◌, ◌<◌, Bool, cond, ◌||◌, List, [], ◌∷◌, ◌++◌, ltb, eqb, length, replicate}
 use Rattle.limits.specs.Limits.{max_path, row_width, dir_width, last_counter}
 use Rattle.lists.specs.Distinct.{In, Distinct}
 use Rattle.device.specs.declared.Place.{Place}

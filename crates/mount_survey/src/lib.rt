@@ -3,7 +3,8 @@
 // comes to is `scan` of specs/Survey.antt. A read that fails ends the staging and leaves the rows as they were; nothing else is refused.
 #![tactic(auto)]
 
-ghost use Rattle.std.specs.Prelude.{◌≡◌, true, false, cond, ◌&&◌, [], ◌∷◌, ◌++◌, map, ◌+◌, ◌-◌, ◌*◌, ◌≤◌, ◌<◌, max, length, get_or, take, replicate, eqb, ltb};
+ghost use Rattle.std.specs.Prelude.{◌≡◌, true, false, cond, ◌&&◌, [], ◌∷◌, ◌++◌, map, ◌+◌, ◌-◌, ◌*◌, ◌≤◌, ◌<◌};
+ghost use Rattle.std.specs.Prelude.{max, length, get_or, take, replicate, eqb, ltb};
 ghost use Rattle.lists.specs.Blocks.{pad};
 ghost use Rattle.device.specs.Device.{turn, given, Shape};
 ghost use Rattle.path.specs.Path.{key_of};

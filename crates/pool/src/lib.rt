@@ -155,7 +155,8 @@ pub fn call(
     second: &[u8],
     buf: &mut [u8],
 ) -> Reply
-    ensures same { Same (asked bytes.old phys.old geometry plan.now at.old rows.old names.old dirs.old pool call first.now second.now buf.old)
+    ensures same { Same
+        (asked bytes.old phys.old geometry plan.now at.old rows.old names.old dirs.old pool call first.now second.now buf.old)
         (left result bytes.new phys.new at.new rows.new names.new dirs.new buf.new) }
     ensures place { Placed (left result bytes.new phys.new at.new rows.new names.new dirs.new buf.new) }
 {

@@ -31,7 +31,8 @@ fn through(
     buf: &mut [u8],
 ) -> Reply
     requires { whole_rows nums.old ≡ true }
-    ensures { came (number_of result.answer) result.told (after bytes.new phys.new result.place nums.new names.new dirs.new result.pool) buf.new
+    ensures { came (number_of result.answer) result.told
+        (after bytes.new phys.new result.place nums.new names.new dirs.new result.pool) buf.new
         ≡ call_p plan.now geometry call first.now second.now buf.old
         (before bytes.old phys.old place nums.old names.old dirs.old pool) }
 {
@@ -74,7 +75,8 @@ pub fn on_numbers(
     second: &[u8],
     buf: &mut [u8],
 ) -> Reply
-    ensures { came (number_of result.answer) result.told (after bytes.new phys.new result.place nums.new names.new dirs.new result.pool) buf.new
+    ensures { came (number_of result.answer) result.told
+        (after bytes.new phys.new result.place nums.new names.new dirs.new result.pool) buf.new
         ≡ call_p plan.now geometry call first.now second.now buf.old
         (before bytes.old phys.old place nums.old names.old dirs.old pool) }
 {

@@ -144,7 +144,8 @@ fn ask(
     buf: &mut [u8],
 ) -> Reply
     requires { Held script.now op }
-    ensures { came (number_of result.answer) result.told (after bytes.new phys.new result.place nums.new names.new dirs.new result.pool) buf.new
+    ensures { came (number_of result.answer) result.told
+        (after bytes.new phys.new result.place nums.new names.new dirs.new result.pool) buf.new
         ≡ call_p plan.now geometry (call_of op) (run_in script.now op.first)
         (run_in script.now op.second) buf.old (before bytes.old phys.old place nums.old names.old dirs.old pool) }
 {

@@ -18,12 +18,11 @@ returns-then-not-live c =
     (sym c.live.ensures ∙ c.if-not-live.true)
 
 pub row_len-len-requires : goal.row_len-len-requires
-row_len-len-requires c =
-    (
-      pool_rows _ c.requires.pool,
-      (live_row _ _ _ _ _
-          (sym c.live.ensures ∙ c.if-not-live.false)).0,
-    )
+row_len-len-requires c = (
+  pool_rows _ c.requires.pool,
+  (live_row _ _ _ _ _
+      (sym c.live.ensures ∙ c.if-not-live.false)).0,
+)
 
 pub returns-then-len-at : goal.returns-then-len-at
 unfolding read_at_m

@@ -16,12 +16,11 @@ returns-then-not-live c =
     (sym c.live.ensures ∙ c.if-not-live.true)
 
 pub is_dirty-requires : goal.is_dirty-requires
-is_dirty-requires c =
-    (
-      pool_rows _ c.requires.pool,
-      (live_row _ _ _ _ _
-          (sym c.live.ensures ∙ c.if-not-live.false)).0,
-    )
+is_dirty-requires c = (
+  pool_rows _ c.requires.pool,
+  (live_row _ _ _ _ _
+      (sym c.live.ensures ∙ c.if-not-live.false)).0,
+)
 
 pub sync_row-put-requires-clause-ready : goal.sync_row-put-requires-clause-ready
 sync_row-put-requires-clause-ready c =

@@ -17,11 +17,14 @@ returns-then-counter-ge-LAST_COUNTER c =
 
 pub release-released-requires : goal.release-released-requires
 release-released-requires c =
-    let p = c.requires in record { ready = p; slot_lt_held = (
+    let p = c.requires in record {
+      ready = p;
+      slot_lt_held = (
         c.if-n-i.false,
         file_busy _ p.pool _ _ c.find_row-i.ensures.row c.if-n-i.false,
         c.if-counter-ge-LAST_COUNTER.false,
-      ) }
+      );
+    }
 
 pub returns : goal.returns
 returns c =

@@ -1,5 +1,4 @@
 -- Carried by the record `Draining`: the releases that are left come to the whole.
-use Prim.Native.Nat.{◌-◌}
 use mathlib.Core.Path.{◌≡◌, refl, ◌∙◌}
 use lib.ListN.{length}
 use borrow.Author.Rules.{rules}

@@ -25,7 +25,7 @@ fits o n m x w e h f k =
 pub returns-then-n-eq0-clause-op : goal.returns-then-n-eq0-clause-op
 returns-then-n-eq0-clause-op c =
     step_is _ _ _ c.args.op _ [] (shown c.args.out.now c.args.at) _
-          (ap (λ (k : ℕ). replicate k 170) (sym c.if-n-eq0.true ∙ c.room-n.ensures)) c.answered.ensures.op
+    (ap (λ (k : ℕ). replicate k 170) (sym c.if-n-eq0.true ∙ c.room-n.ensures)) c.answered.ensures.op
 
 pub returns-then-n-eq0-clause-few : goal.returns-then-n-eq0-clause-few
 returns-then-n-eq0-clause-few c =
@@ -57,7 +57,10 @@ answered-requires-2 c =
 pub returns : goal.returns
 returns c =
     let f = fits c.args.op c.room-n.result 65536 170 c.fresh-work.result c.room-n.ensures
-    c.requires.2 c.fresh-work.ensures (omega arith) in record { op = step_is _ _ _ c.args.op _ (take c.room-n.result c.fresh-work.result)
+    c.requires.2 c.fresh-work.ensures (omega arith) in record {
+      op = step_is _ _ _ c.args.op _ (take c.room-n.result c.fresh-work.result)
           (shown c.args.out.now c.args.at) _
           (fresh_front c.room-n.result 65536 170 c.fresh-work.result c.fresh-work.ensures (omega (arith, f.0))
-          ∙ ap (λ (k : ℕ). replicate k 170) c.room-n.ensures) c.answered-2.ensures.op; few = c.answered-2.ensures.few }
+          ∙ ap (λ (k : ℕ). replicate k 170) c.room-n.ensures) c.answered-2.ensures.op;
+      few = c.answered-2.ensures.few;
+    }
