@@ -52,14 +52,14 @@ returns-then-code-eq0-clause-few c =
 pub step-ran-requires : goal.step-ran-requires
 step-ran-requires c =
     let S = sound_of c.args.script.now c.loop-geometry.pos _
-    (λ j. omega (arith, c.shared_slice_known-2-1.given j)) c.op_at-op.ensures
+    (λ j. omega (arith, c.type_inv.script j)) c.op_at-op.ensures
     c.if-code-eq0.false in
     (S.held, S.code, S.small, omega (arith, c.loop-geometry.invariant.6.few, c.loop-geometry.invariant.6.inside, c.requires.1))
 
 pub loop-geometry-smaller : goal.loop-geometry-smaller
 loop-geometry-smaller c =
     let S = sound_of c.args.script.now c.loop-geometry.pos _
-    (λ j. omega (arith, c.shared_slice_known-2-1.given j)) c.op_at-op.ensures
+    (λ j. omega (arith, c.type_inv.script j)) c.op_at-op.ensures
     c.if-code-eq0.false in
     omega (arith, S.further, S.held.second_end)
 
@@ -74,6 +74,6 @@ loop-geometry-preserved c =
       k.dirs ∙ i.4,
       k.out ∙ i.5,
       going_on _ _ _ _ _ _ _ _ _ i.6 _ c.op_at-op.ensures _ _
-          (λ j. omega (arith, c.shared_slice_known-2-1.given j)) c.if-code-eq0.false c.step-ran.ensures.op
+          (λ j. omega (arith, c.type_inv.script j)) c.if-code-eq0.false c.step-ran.ensures.op
           c.step-ran.ensures.few,
     )
