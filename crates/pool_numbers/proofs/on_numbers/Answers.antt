@@ -1,6 +1,5 @@
 -- Each way is the call that it makes, whose contract is this one. Carried by the test: numbers that go through records are whole rows.
 use mathlib.Core.Path.{sym, ◌∙◌}
-use borrow.Author.Tests.{not-false}
 use Rattle.pool_numbers.proofs.on_numbers.Goals as goal
 
 pub through-requires : goal.through-requires
