@@ -1,4 +1,5 @@
 -- One law for each way out: `device_none`, `device_run`; the device's bytes and lengths are fronts of lent buffers.
+use borrow.Author.Tests.{not-true, not-false}
 use mathlib.Core.Path.{◌∙◌, ◌≡◌, ap, sym, subst, ap₂}
 use mathlib.Core.List.{List, ◌++◌}
 use Prim.Native.Nat.{ℕ, ◌*◌, ◌≤◌, ◌+◌}
@@ -28,7 +29,7 @@ pub returns-then-not-run : goal.returns-then-not-run
 returns-then-not-run c =
     device_none c.args.script.now c.args.setup _ _ _ c.patch-run.ensures
     (fresh_front (c.args.setup.slots * c.args.setup.size) 65536 0 c.no_bytes-bytes.result
-    c.no_bytes-bytes.ensures c.requires.bytes) _ (c.if-not-run.true)
+    c.no_bytes-bytes.ensures c.requires.bytes) _ (not-true _ c.if-not-run.true)
 
 pub slice_bounds-lengths-end : goal.slice_bounds-lengths-end
 slice_bounds-lengths-end c =
@@ -110,4 +111,4 @@ returns c =
     ∙ ap (λ (x : List ℕ). pours x o)
     (device_run s u _ b _ c.patch-run.ensures
     (fresh_front k 65536 0 c.no_bytes-bytes.result c.no_bytes-bytes.ensures c.requires.bytes) h _
-    c.lengths.ensures m (c.if-not-run.false))
+    c.lengths.ensures m (not-false _ c.if-not-run.false))

@@ -44,5 +44,5 @@ returns c =
     (fresh_front (u.rows * max_path) 31680 0 c.no_names-names.result c.no_names-names.ensures
     (omega (arith, c.requires.0.rows)))
     (fresh_front (u.dir_rows * dir_width) 124356 0 c.no_dirs-dirs.result c.no_dirs-dirs.ensures
-    (omega (arith, c.requires.0.dir_rows_lem))))) in let all = (p.0, (p.1, p.2)) in
-    record { output = all.0; bytes = all.1.0; phys = all.1.1 }
+    (omega (arith, c.requires.0.dir_rows_lem))))) in
+    record { output = p.0; bytes = p.1; phys = p.2 }

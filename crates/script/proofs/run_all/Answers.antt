@@ -29,4 +29,4 @@ put_device-at-requires c =
 
 pub returns : goal.returns
 returns c =
-    tables_are _ _ _ _ _ _ c.run-ran.ensures.ops c.put_record-a.ensures.record c.put_device-at.ensures
+    tables_are _ _ _ _ _ _ c.run-ran.ensures.ops c.put_record-a.ensures.«record» c.put_device-at.ensures

@@ -13,7 +13,7 @@ loop-i-init c =
 
 pub overflow_cast-s : goal.overflow_cast-s
 overflow_cast-s c =
-    omega (arith, c.shared_slice_known-1.given c.loop-i.i)
+    omega (arith, c.type_inv.s c.loop-i.i)
 
 pub returns-then-s-i : goal.returns-then-s-i
 returns-then-s-i c =
