@@ -39,10 +39,6 @@ pub loop-j-preserved : goal.loop-j-preserved
 loop-j-preserved c =
     picking_no _ _ _ _ _ _ _ c.loop-j.invariant c.loop-j-test.true (sym c.is_child_dir.ensures ∙ c.if-is_child_dir.false)
 
-pub shape_of-spans : goal.shape_of-spans
-shape_of-spans c =
-    c.loop-j.invariant.long
-
 pub returns : goal.returns
 returns c =
     let all = picking_end _ _ _ _ _ _ _ c.loop-j.invariant _ c.loop-j-test.false (child_dirs_lem _ _ _) in

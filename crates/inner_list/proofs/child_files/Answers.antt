@@ -40,10 +40,6 @@ pub loop-i-preserved : goal.loop-i-preserved
 loop-i-preserved c =
     picking_no _ _ _ _ _ _ _ c.loop-i.invariant c.loop-i-test.true (sym c.is_child.ensures ∙ c.if-is_child.false)
 
-pub shape_of-spans : goal.shape_of-spans
-shape_of-spans c =
-    c.loop-i.invariant.long
-
 pub returns : goal.returns
 returns c =
     let all = picking_end _ _ _ _ _ _ _ c.loop-i.invariant _ c.loop-i-test.false (child_files_lem _ _ _ _) in

@@ -46,10 +46,6 @@ loop-i-preserved c =
     putting_more _ _ _ _ _ _ _ _ c.loop-i.invariant c.requires.0
     c.loop-i-test.true _ c.put_entry.ensures
 
-pub shape_of-buf : goal.shape_of-buf
-shape_of-buf c =
-    c.loop-i.invariant.long
-
 pub returns : goal.returns
 returns c =
     let all = putting_end _ _ _ _ _ _ _ _ c.loop-i.invariant c.loop-i-test.false in

@@ -17,10 +17,6 @@ copy_in-requires c =
       (length-set c.args.buf.now c.args.at c.args.kind),
     )
 
-pub shape_of-buf : goal.shape_of-buf
-shape_of-buf c =
-    c.copy_in.auto.dst ∙ c.put_at.auto.dst ∙ simp length-set
-
 pub returns : goal.returns
 returns c =
     entry_put c.args.buf.now _ _ _ c.args.path.now c.args.at c.args.kind _

@@ -95,10 +95,6 @@ fill-end-requires c =
     fill_ready _ c.requires _ c.args.buf.now (sym c.dir_find.ensures ∙ c.if-not-dir_find.false) _ _ _ _ f d _ _ c.size_of.ensures
     c.size_of-2.ensures c.if-buf-size.false
 
-pub shape_of-buf : goal.shape_of-buf
-shape_of-buf c =
-    c.fill-end.auto.buf
-
 pub returns : goal.returns
 returns c =
     let f = files_front _ c.requires c.args.path.now _ _ (c.child_files-f.ensures.count, c.child_files-f.ensures.picked) in

@@ -2,36 +2,6 @@
 use Rattle.line.proofs.Ways.{ends}
 use Rattle.line.proofs.end.Goals as goal
 
-abbrev at-ask : tie.After-slice-known12 → tie.After-ask
-at-ask c =
-    let at_after = c.before.before.before.before.before.before in
-    let at-nums = at_after.before.before.before.before.before.before in
-    at-nums.before.before.before.before.before
-
-pub shape_of-bytes : goal.shape_of-bytes
-shape_of-bytes c =
-    (at-ask c).ask.auto.0
-
-pub shape_of-phys : goal.shape_of-phys
-shape_of-phys c =
-    (at-ask c).ask.auto.1.0
-
-pub shape_of-nums : goal.shape_of-nums
-shape_of-nums c =
-    (at-ask c).ask.auto.1.1.1.0
-
-pub shape_of-names : goal.shape_of-names
-shape_of-names c =
-    (at-ask c).ask.auto.1.1.1.1.0
-
-pub shape_of-dirs : goal.shape_of-dirs
-shape_of-dirs c =
-    (at-ask c).ask.auto.1.1.1.1.1.0
-
-pub shape_of-out : goal.shape_of-out
-shape_of-out c =
-    c.say_end.auto.out
-
 pub returns : goal.returns
 returns c =
-    ends _ _ _ _ c.number.ensures _ _ _ (at-ask c).ask.ensures c.say_end.ensures
+    ends _ _ _ _ c.number.ensures _ _ _ c.ask-done.ensures c.say_end.ensures

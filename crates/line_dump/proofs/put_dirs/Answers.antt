@@ -28,10 +28,6 @@ loop-k-preserved c =
       c.put_dir-a.auto.out ∙ l.invariant.3,
     )
 
-pub shape_of-out : goal.shape_of-out
-shape_of-out c =
-    c.loop-k.invariant.3
-
 pub returns : goal.returns
 returns c =
     cat_end _ c.args.spans.now c.loop-k.k _ c.loop-k-test.false ∙ c.loop-k.invariant.2

@@ -16,10 +16,6 @@ pub loop-j-preserved : goal.loop-j-preserved
 loop-j-preserved c =
     (omega arith, simp length-set c.loop-j.invariant.1, keys_more text_key (dir_at c.args.dirs.now) c.loop-j.keys c.loop-j.j _ c.loop-j.invariant.2 (omega arith) c.dir_key.ensures)
 
-pub shape_of-keys : goal.shape_of-keys
-shape_of-keys c =
-    c.loop-j.invariant.1
-
 pub returns : goal.returns
 returns c =
     record { room = omega arith; key = λ i h. c.loop-j.invariant.2 i (omega arith) }

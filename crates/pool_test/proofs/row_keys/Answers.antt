@@ -26,10 +26,6 @@ loop-i-preserved c = (
       c.row_key.ensures,
 )
 
-pub shape_of-keys : goal.shape_of-keys
-shape_of-keys c =
-    c.loop-i.invariant.1
-
 pub returns : goal.returns
 returns c =
     record { room = omega arith; key = λ j h. c.loop-i.invariant.2 j (omega arith) }

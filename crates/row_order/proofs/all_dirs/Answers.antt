@@ -27,10 +27,6 @@ pub loop-j-preserved : goal.loop-j-preserved
 loop-j-preserved c =
     picking_yes _ _ _ _ _ _ _ c.loop-j.invariant c.loop-j-test.true _ refl c.dir_span.ensures
 
-pub shape_of-spans : goal.shape_of-spans
-shape_of-spans c =
-    c.loop-j.invariant.long
-
 pub returns : goal.returns
 returns c =
     (picking_end _ _ _ _ _ _ _ c.loop-j.invariant _ c.loop-j-test.false (dir_spans_lem _ _)).1

@@ -39,10 +39,6 @@ pub loop-i-preserved : goal.loop-i-preserved
 loop-i-preserved c =
     picking_no _ _ _ _ _ _ _ c.loop-i.invariant c.loop-i-test.true (sym c.is_bound.ensures ∙ c.if-is_bound.false)
 
-pub shape_of-spans : goal.shape_of-spans
-shape_of-spans c =
-    c.loop-i.invariant.long
-
 pub returns : goal.returns
 returns c =
     picking_end _ _ _ _ _ _ _ c.loop-i.invariant _ c.loop-i-test.false (file_spans_lem _ _ _)

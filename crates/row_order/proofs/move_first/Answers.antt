@@ -19,10 +19,6 @@ loop-j-preserved c = (
       c.loop-j.j c.args.k (omega arith) (omega arith) c.loop-j.invariant.2,
 )
 
-pub shape_of-spans : goal.shape_of-spans
-shape_of-spans c =
-    simp length-set c.loop-j.invariant.1
-
 pub returns : goal.returns
 returns c =
     move_end c.args.spans.now c.loop-j.spans c.loop-j.j c.args.k _ c.requires c.loop-j.invariant.0 (omega arith) c.loop-j.invariant.2

@@ -26,10 +26,6 @@ loop-i-preserved c =
     c.move_first.ensures refl in
     (omega arith, sorted_long c.args.bytes.now c.args.spans.now _ (l.i - 1) t, t)
 
-pub shape_of-spans : goal.shape_of-spans
-shape_of-spans c =
-    c.loop-i.invariant.1
-
 pub returns : goal.returns
 returns c =
     sort_end _ _ _ _ c.loop-i-test.false c.loop-i.invariant.2
