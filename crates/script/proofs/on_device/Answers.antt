@@ -11,13 +11,6 @@ use Rattle.script_step.proofs.Ways.{fresh_front, fresh_length}
 use Rattle.script.specs.Script.{whole, ran_m}
 use Rattle.script.proofs.Ways.{device_none, device_run, starts_inside, front_back}
 use native.Mathlib.Omega.{arith}
-use Rattle.script.proofs.on_device.Reads as reads
-use Rattle.script.proofs.on_device.Lts as lts
-use Rattle.script_format.proofs.lengths.Reads as lengths-reads
-use Rattle.script_format.proofs.patch.Reads as patch-reads
-use Rattle.script.proofs.no_bytes.Reads as no-bytes-reads
-use Rattle.script.proofs.no_lengths.Reads as no-lengths-reads
-use Rattle.script.proofs.on_rows.Reads as on-rows-reads
 use Rattle.script.proofs.on_device.Goals as goal
 
 pub slice_bounds-patch-end : goal.slice_bounds-patch-end
@@ -78,14 +71,13 @@ slice_bounds-on_rows-end-2 c =
     sym (ap length (front_back k b c.no_lengths-phys.result n) ∙ n)
 
 pub on_rows-requires : goal.on_rows-requires
-on_rows-requires c =
-    (
-      c.requires,
-      starts_inside c.args.script.now c.args.setup _ _ _
-          c.patch-run.ensures
-          (fresh_front (c.args.setup.slots * c.args.setup.size) 65536 0 c.no_bytes-bytes.result
-          c.no_bytes-bytes.ensures c.requires.bytes) c.requires.patches,
-    )
+on_rows-requires c = (
+  c.requires,
+  starts_inside c.args.script.now c.args.setup _ _ _
+      c.patch-run.ensures
+      (fresh_front (c.args.setup.slots * c.args.setup.size) 65536 0 c.no_bytes-bytes.result
+      c.no_bytes-bytes.ensures c.requires.bytes) c.requires.patches,
+)
 
 pub returns : goal.returns
 returns c =

@@ -9,13 +9,6 @@ use Rattle.script_step.proofs.Ways.{fresh_front, fresh_length}
 use Rattle.script.specs.Script.{closed}
 use Rattle.script.proofs.Ways.{closed_parts, rows_are}
 use native.Mathlib.Omega.{arith}
-use Rattle.script.proofs.on_rows.Reads as reads
-use Rattle.script.proofs.on_rows.Lts as lts
-use Rattle.script.proofs.no_dirs.Reads as no-dirs-reads
-use Rattle.script.proofs.no_names.Reads as no-names-reads
-use Rattle.script.proofs.no_nums.Reads as no-nums-reads
-use Rattle.mount.proofs.zero.Reads as zero-reads
-use Rattle.script.proofs.run_all.Reads as run-all-reads
 use Rattle.script.proofs.on_rows.Goals as goal
 
 pub slice_bounds-run_all-end-2 : goal.slice_bounds-run_all-end-2

@@ -4,10 +4,6 @@ use mathlib.Core.Path.{◌∙◌, ap, sym, subst}
 use Rattle.script_format.specs.declared.Setup.{Setup}
 use Rattle.script_format.specs.Reading.{Fine, setup_fine}
 use Rattle.script.proofs.Ways.{script_none, script_is}
-use Rattle.script.proofs.pool_script.Reads as reads
-use Rattle.script.proofs.pool_script.Lts as lts
-use Rattle.script_format.proofs.setup_at.Reads as setup-at-reads
-use Rattle.script.proofs.on_device.Reads as on-device-reads
 use Rattle.script.proofs.pool_script.Goals as goal
 
 pub returns-then-not-setup : goal.returns-then-not-setup

@@ -1,12 +1,7 @@
 -- Carried by the record `Going`: running the operations that are left gives the whole run.
 use mathlib.Core.Path.{◌∙◌, refl}
-use Prim.Native.Nat.{◌-◌}
 use Rattle.script.proofs.Ways.{sound_of, going_start, going_end, going_on}
 use native.Mathlib.Omega.{arith}
-use Rattle.script.proofs.run.Reads as reads
-use Rattle.script.proofs.run.Lts as lts
-use Rattle.script_step.proofs.step.Reads as step-reads
-use Rattle.script_format.proofs.op_at.Reads as op-at-reads
 use Rattle.script.proofs.run.Goals as goal
 
 pub loop-geometry-init : goal.loop-geometry-init
