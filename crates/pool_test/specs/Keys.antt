@@ -1,5 +1,5 @@
 -- What passes between the parts of the test: the sizes in words, keys worked out once, and what is known of a directory that passed.
-use Rattle.std.specs.Prelude.{ℕ, ◌+◌, ◌*◌, ◌^◌, ◌≤◌, ◌<◌, ◌≡◌, ◌⊎◌, List, Bool, true, false, length, get_or}
+use Rattle.std.specs.Prelude.{ℕ, ◌+◌, ◌*◌, ◌≤◌, ◌<◌, ◌≡◌, ◌⊎◌, List, Bool, true, false, length, get_or}
 use Rattle.limits.specs.Limits.{max_path, row_width, dir_width, last_counter}
 use Rattle.lists.specs.Runs.{all_of, any_of}
 use Rattle.lists.specs.Same.{same_bytes}

@@ -1,6 +1,6 @@
 -- Whether lent buffers are a pool (01, "A pool"), as a test: sizes first, then that the buffers hold nothing but their view, then what the view
 -- says. That it is right is `PoolExactly`, at the end.
-use Rattle.std.specs.Prelude.{ℕ, ◌+◌, ◌-◌, ◌*◌, ◌^◌, ◌≡◌, ◌↔◌, List, [], ◌∷◌, Bool, true, not, cond, ◌&&◌, eqb, ltb, leb, length, take, drop, get_or}
+use Rattle.std.specs.Prelude.{ℕ, ◌+◌, ◌-◌, ◌*◌, ◌≡◌, ◌↔◌, List, [], ◌∷◌, Bool, true, not, cond, ◌&&◌, eqb, ltb, leb, length, take, drop, get_or}
 use Rattle.limits.specs.Limits.{max_path, row_width, dir_width, last_counter}
 use Rattle.lists.specs.Runs.{all_of, any_of}
 use Rattle.lists.specs.Same.{same_bytes}

@@ -3,7 +3,7 @@ use Rattle.std.specs.Prelude.{◌≡◌, refl, [], ◌∷◌}
 use Rattle.lists.specs.Order.{cmp_nat, lex}
 use Rattle.lists.specs.Sort.{insert, sort}
 use Rattle.path.specs.Path.{grow, cut, split, idle, names, opening, components, is_root, slash, join, normal, path_order}
-use Rattle.row_order.specs.Spans.{span, spelled, span_before, path_before, in_order}
+use Rattle.row_order.specs.Spans.{span, spelled, path_before, in_order}
 
 -- `a.b` comes before `a/b`, and `a` before both
 dot_before_slash : in_order ((97 ∷ 47 ∷ 98 ∷ []) ∷ (97 ∷ 46 ∷ 98 ∷ []) ∷ (97 ∷ []) ∷ []) ≡ (97 ∷ []) ∷ (97 ∷ 46 ∷ 98 ∷ []) ∷ (97 ∷ 47 ∷ 98 ∷ []) ∷ []

@@ -1,6 +1,5 @@
 -- The invariant: the keys below j are written. One more by `keys_more`.
 use mathlib.Core.Path.{refl}
-use Prim.Native.Nat.{◌-◌}
 use lib.ListN.{length-set}
 use Rattle.dir_rows.specs.Rows.{dir_at}
 use Rattle.path.specs.Path.{text_key}

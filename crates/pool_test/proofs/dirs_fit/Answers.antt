@@ -1,6 +1,5 @@
 -- The invariant: what is left of the rows answers for all of them.
 use mathlib.Core.Path.{sym, ◌∙◌}
-use Prim.Native.Nat.{◌-◌}
 use Rattle.lists.specs.Runs.{all_of, from_start, all_next, all_not, all_end}
 use Rattle.pool_test.specs.Test.{dir_fits}
 use native.Mathlib.Omega.{arith}

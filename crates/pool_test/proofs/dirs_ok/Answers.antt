@@ -1,5 +1,4 @@
 -- The invariant: the directories below j are fine. If all are, they are those of a pool: `all_fine`.
-use Prim.Native.Nat.{◌-◌}
 use Rattle.pool_test.specs.Keys.{Fine}
 use Rattle.pool_test.proofs.Upright.{judged_no, judged_yes, fine_more, all_fine}
 use native.Mathlib.Omega.{arith}

@@ -1,5 +1,4 @@
 -- Carried by `flag_turn`: the flag, or what is left of the run, is the answer.
-use Prim.Native.Nat.{◌-◌}
 use Rattle.pool_test.specs.Test.{is_at}
 use Rattle.pool_test.proofs.Turns.{flag_start, flag_turn, flag_end}
 use native.Mathlib.Omega.{arith}

@@ -1,6 +1,5 @@
 -- The invariant: what is left of the rows answers for all of them.
 use mathlib.Core.Path.{sym, ◌∙◌}
-use Prim.Native.Nat.{◌-◌}
 use Rattle.lists.specs.Runs.{any_of, from_start, any_hit, any_next, any_end}
 use Rattle.pool_test.specs.Keys.{is_dir}
 use native.Mathlib.Omega.{arith}

@@ -1,6 +1,5 @@
 -- The invariant: the keys below i are written. One more by `keys_more`.
 use mathlib.Core.Path.{refl}
-use Prim.Native.Nat.{◌-◌}
 use lib.ListN.{length-set}
 use Rattle.path.specs.Path.{key_of}
 use Rattle.slot_rows.specs.Rows.{at, path_of, rows_of}

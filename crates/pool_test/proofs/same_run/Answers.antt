@@ -1,6 +1,5 @@
 -- The invariant: the flag, and what is left of both from `i` on, is the answer.
 use mathlib.Core.Path.{refl}
-use Prim.Native.Nat.{◌-◌}
 use Rattle.pool_test.proofs.Turns.{same_turn, same_end}
 use native.Mathlib.Omega.{arith}
 use Rattle.pool_test.proofs.same_run.Goals as goal

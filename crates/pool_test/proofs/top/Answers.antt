@@ -1,6 +1,5 @@
 -- Carried by `greatest_turn`: the greatest so far and of what is left is the greatest.
 use mathlib.Core.Path.{◌∙◌}
-use Prim.Native.Nat.{◌-◌}
 use Rattle.text.proofs.Turns.{greatest_turn, greatest_end}
 use native.Mathlib.Omega.{arith}
 use Rattle.pool_test.proofs.top.Goals as goal

@@ -1,8 +1,5 @@
 -- The invariant `Picking`, where every row is picked.
-use Prim.Native.Nat.{◌-◌}
 use mathlib.Core.Path.{refl}
-use mathlib.Core.Bool.{true}
-use Rattle.row_order.specs.Spans.{dir_span}
 use Rattle.row_order.specs.Picks.{picking_start, picking_yes, picking_end, dir_spans_lem}
 use native.Mathlib.Omega.{arith}
 use Rattle.row_order.proofs.all_dirs.Goals as goal

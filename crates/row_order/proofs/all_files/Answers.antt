@@ -1,8 +1,5 @@
 -- The invariant `Picking`: what is still to be picked makes the whole of it.
-use Prim.Native.Nat.{◌-◌}
 use mathlib.Core.Path.{sym, ◌∙◌}
-use Rattle.slot_rows.specs.Rows.{is_bound}
-use Rattle.row_order.specs.Spans.{file_span}
 use Rattle.row_order.specs.Picks.{picking_start, picking_yes, picking_no, picking_end, file_spans_lem}
 use native.Mathlib.Omega.{arith}
 use Rattle.row_order.proofs.all_files.Goals as goal

@@ -1,5 +1,4 @@
 -- The invariant: the next j stand one place further left. `move_on` moves one more.
-use Prim.Native.Nat.{◌-◌}
 use mathlib.Core.Path.{refl}
 use lib.ListN.{length-set}
 use Rattle.row_order.proofs.Moves.{moving, move_on, move_end}

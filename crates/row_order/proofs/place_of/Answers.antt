@@ -1,5 +1,4 @@
 -- The invariant `Narrow`: below low none, from high on all. `narrow_down` and `narrow_up` set a half aside.
-use Prim.Native.Nat.{◌-◌}
 use mathlib.Core.Path.{sym, ◌∙◌}
 use lib.ListN.{length-drop}
 use Rattle.row_order.specs.InOrder.{before_levels, inside_get}
