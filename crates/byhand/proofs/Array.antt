@@ -1,7 +1,7 @@
 -- A local array that is lent as a slice for a call, and comes back, as steps of the calculus.
 --     lent_array, returned_array      as `&mut`: a lifetime ν is made, and the array's cell is lent for it; ν's token and what says the last list: the cell again
 --     lent_front, returned_front      its first k elements as `&mut`: the others stay with the lender (`behind`), and stand behind the last list afterwards
---     shared_array, unshared_array    as `&`: the list stays
+--     shared_array, unshared_array    as `&`: the list stays. Of elements that hold no `&mut`, for whatever lifetime
 -- Assumes `Logic`.
 use mathlib.Core.Path.{◌≡◌, refl, sym, subst, ◌∙◌}
 use Prim.Native.Nat.{ℕ, ◌≤◌}
@@ -9,10 +9,11 @@ use mathlib.Core.List.{List, [], ◌∷◌, ◌++◌}
 use lib.ListN.{length, take, drop as without, take-append-drop}
 use lib.Seq.{length-take-le, length_front}
 use seplogic.Ra.Ura.{Ura}
-use seplogic.Ra.TreeShare.{full_share}
+use base.Fraction.{full_share}
 use mir.Syntax.{Lifetime}
 use mir.Val.{Val}
-use base.Fml.{GName, Fml, fsep, flft, flent}
+use base.Fml.{GName, Fml, Incl-refl, fsep, flft, flent}
+use contract.BorrowLft.{⊑_static}
 use types.Logic.{Logic}
 use types.Kit.{Goal, Soaks, Item, ‵, ◌⊛◌, some, later, Seq, Step, step, ◌$◌, move, use1, use2, use3, split, drop, pick, rewrite, fsplit, fjoin, fpack, fpick, feq_l, feq_i, await}
 use types.SemTy.{cells, Arr}
@@ -23,6 +24,7 @@ use denote.Laws.{Is, Tells, Makes, shows}
 use denote.Array.{Array, Array-Makes, Array-Tells, array_vals}
 use denote.ArrayMemory.{Single, Array-apart, Array-whole}
 use denote.Memory.{mem, shares, cell_at, part_at, part_of}
+use denote.Shares.{Shares}
 use denote.Slice.{slice_val, MutSlice, ShrSlice, Room, finally}
 use denote.Lend.{Held, lends_slice, slice_back, lends_shr_slice}
 use denote.Index.{row, whole_in, whole_out}
@@ -100,15 +102,15 @@ module _ {M : Type 1} {𝓤 : Ura M} {𝓛 : Logic 𝓤} {K : Type 0} {Γ : List
       use1 𝓛 (‵ (row R full_share (ys ++ without k xs) b o)) (whole_out 𝓛 R (ys ++ without k xs) b o) $
       together t R vals tl n b o (ys ++ without k xs) (length_front xs ys k (e ∙ sym (length-take-le k xs (subst (λ (m : ℕ). k ≤ m) (sym l) few))) ∙ l) (next e))
 
-  pub shared_array : K → Soaks G → (R : RattleType) → Single R.mir → Makes 𝓛 R (Is R) → (ℓ : Lifetime) (n b o : ℕ) (xs : List R.Denot) (vs : List Val) → Is (Array R n) xs vs → Room R n
-      → ((ν : ℕ) (γ : GName) → length xs ≡ n
+  pub shared_array : K → Soaks G → (R : RattleType) → Single R.mir → Makes 𝓛 R (Is R) → Shares 𝓛 R [] → (ℓ : Lifetime) (n b o : ℕ) (xs : List R.Denot) (vs : List Val) → Is (Array R n) xs vs → Room R n
+      → ((ν : ℕ) → length xs ≡ n
       → Seq K 𝓛 (‵ (flft (ν ∷ []) full_share) ∷ ‵ ((ShrSlice ℓ (ν ∷ []) R).own_val (record { ref_ptr = (b, o); now = xs }) (slice_val (b, o) n ∷ [])) ∷ ‵ (flent (ν ∷ []) ((arr_parts (shares R) (length xs)).part full_share xs b o)) ∷ Γ) G)
       → Seq K 𝓛 (‵ (cell_at full_share (Array R n).mir vs b o) ∷ Γ) G
-  shared_array t z R one mk ℓ n b o xs vs is room k =
-      apart t R one mk n b o xs vs is (λ l. feq_i t ℕ (length xs) (length xs) refl $ fjoin t $ lft_new t z (λ ν. move t (1 ∷ []) $
-      use1 𝓛 (later (some (λ (γ : GName). ‵ ((ShrSlice ℓ (ν ∷ []) R).own_val (record { ref_ptr = (b, o); now = xs }) (slice_val (b, o) (length xs) ∷ [])) ⊛ ‵ (flent (ν ∷ []) ((arr_parts (shares R) (length xs)).part full_share xs b o)))))
-      (lends_shr_slice 𝓛 R ℓ (ν ∷ []) full_share xs b o (subst (Room R) (sym l) room)) $ await t z $ pick t (λ γ. split t $
-      rewrite t 0 (λ (m : ℕ). ‵ ((ShrSlice ℓ (ν ∷ []) R).own_val (record { ref_ptr = (b, o); now = xs }) (slice_val (b, o) m ∷ []))) l refl $ move t (2 ∷ 0 ∷ 1 ∷ []) $ k ν γ l)))
+  shared_array t z R one mk s ℓ n b o xs vs is room k =
+      apart t R one mk n b o xs vs is (λ l. feq_i t ℕ (length xs) (length xs) refl $ fjoin t $ lft_new t z (λ ν. move t (1 ∷ 0 ∷ []) $
+      use2 𝓛 (later ((‵ ((ShrSlice ℓ (ν ∷ []) R).own_val (record { ref_ptr = (b, o); now = xs }) (slice_val (b, o) (length xs) ∷ [])) ⊛ ‵ (flent (ν ∷ []) ((arr_parts (shares R) (length xs)).part full_share xs b o))) ⊛ ‵ (flft (ν ∷ []) full_share)))
+      (lends_shr_slice 𝓛 R ℓ (ν ∷ []) full_share xs b o (subst (Room R) (sym l) room) [] s ((ν ∷ [], full_share) ∷ []) (⊑_static (ν ∷ [])) (Incl-refl (ν ∷ []))) $ await t z $ split t $ split t $
+      rewrite t 0 (λ (m : ℕ). ‵ ((ShrSlice ℓ (ν ∷ []) R).own_val (record { ref_ptr = (b, o); now = xs }) (slice_val (b, o) m ∷ []))) l refl $ move t (2 ∷ 0 ∷ 1 ∷ []) $ k ν l))
 
   pub unshared_array : K → Soaks G → (R : RattleType) (vals : R.Denot → List Val) → Tells R (Is R) vals → {ν : ℕ} (n b o : ℕ) (xs : List R.Denot) → length xs ≡ n
       → Step K 𝓛 (‵ (cell_at full_share (Array R n).mir (array_vals vals xs) b o) ∷ Γ) G (‵ (flft (ν ∷ []) full_share) ∷ ‵ (flent (ν ∷ []) ((arr_parts (shares R) (length xs)).part full_share xs b o)) ∷ Γ) G

@@ -11,7 +11,7 @@ use mathlib.Core.List.{List, [], ◌∷◌}
 use seplogic.Ra.Ura.{Ura}
 use Prim.Native.Nat.{ℕ, zero, suc, ◌<◌, ◌^◌}
 use base.Fml.{Lft}
-use mir.Syntax.{Lifetime, Name, Place, Opd as Operand, Body, seq, call, Local, local, Ty, ty_unit, w64}
+use mir.Syntax.{Lifetime, Callee, Place, Opd as Operand, Body, seq, call, Local, local, Ty, ty_unit, w64}
 use mir.Val.{Val, vint}
 use base.Logic.{ent, emp, id⊢}
 use prog.Wp.{Env, Calls, Loops}
@@ -19,7 +19,7 @@ use types.Logic.{Logic}
 use sound.WpLaws.{FmC}
 use types.Kit.{Step, step, Item, ‵, raw, ◌⊛◌, some, later, Post, Goal, runs, lands, Seq, ◌$◌, move, use0, use1, use2, split, pick, drop, regoal, await}
 use types.Run.{Opds}
-use denote.RattleType.{RattleType, owns}
+use denote.RattleType.{RattleType, RowLaws, owns}
 use denote.Ref.{Bor}
 use denote.Slice.{ShrSlice, shr_slice_copy}
 use denote.Laws.{Is, Tells, shows}
@@ -41,7 +41,7 @@ ty [] j = ty_unit
 ty (local τ h ∷ ls) zero = τ
 ty (local τ h ∷ ls) (suc j) = ty ls j
 
-module _ {M : Type 1} {𝓤 : Ura M} {𝓛 : Logic 𝓤} {K : Type 0} {Γ : List (Item 𝓤)} {E : Env 𝓤 𝓛.H} {C : Calls 𝓤 𝓛.H} {f : Name} {xs : List Operand} {Λ : Loops 𝓤 𝓛.H} {q : Post 𝓤 𝓛.H} {d : Place} where
+module _ {M : Type 1} {𝓤 : Ura M} {𝓛 : Logic 𝓤} {K : Type 0} {Γ : List (Item 𝓤)} {E : Env 𝓤 𝓛.H} {C : Calls 𝓤 𝓛.H} {f : Callee} {xs : List Operand} {Λ : Loops 𝓤 𝓛.H} {q : Post 𝓤 𝓛.H} {d : Place} where
   open 𝓛 use {H}
 
   pub calls_to : K → FmC 𝓤 H 𝓛.laws C → {rest : Body} (T : Ended) (c : Clauses 𝓤 T) → Meets 𝓛 T.signature (C f) (closing 𝓛 T c)
@@ -63,9 +63,9 @@ module _ {M : Type 1} {𝓤 : Ura M} {𝓛 : Logic 𝓤} {K : Type 0} {Γ : List
       regoal t (λ (u : Val). lands C Λ E d u rest q) (ap only (tl r (v ∷ []) is)) refl $ k r ws (subst (Is (type_at T.signature.result y.0.0) r) (tl r (v ∷ []) is) is)))))
 
 module _ {M : Type 1} {𝓤 : Ura M} {𝓛 : Logic 𝓤} {K : Type 0} {Γ : List (Item 𝓤)} {G : Goal 𝓤 𝓛.H} where
-  pub copied : K → (ℓ : Lifetime) (κ : Lft) (R : RattleType) (x : Bor (List R.Denot)) (vs : List Val)
+  pub copied : K → (ℓ : Lifetime) (κ : Lft) (R : RattleType) → RowLaws R → (x : Bor (List R.Denot)) (vs : List Val)
       → Step K 𝓛 (‵ ((ShrSlice ℓ κ R).own_val x vs) ∷ ‵ ((ShrSlice ℓ κ R).own_val x vs) ∷ Γ) G (‵ ((ShrSlice ℓ κ R).own_val x vs) ∷ Γ) G
-  copied t ℓ κ R x vs = step (λ s. use1 𝓛 (‵ ((ShrSlice ℓ κ R).own_val x vs) ⊛ ‵ ((ShrSlice ℓ κ R).own_val x vs)) ((shr_slice_copy 𝓛 ℓ κ R).twice x vs) $ split t $ s)
+  copied t ℓ κ R L x vs = step (λ s. use1 𝓛 (‵ ((ShrSlice ℓ κ R).own_val x vs) ⊛ ‵ ((ShrSlice ℓ κ R).own_val x vs)) ((shr_slice_copy 𝓛 ℓ κ R L).twice x vs) $ split t $ s)
 
   pub a_number : K → (n : ℕ) → n < 2 ^ 64 → Step K 𝓛 (‵ (u64.own_val n (vint w64 n ∷ [])) ∷ Γ) G Γ G
   a_number t n l = owned t u64 (Is u64) (uint_Makes 𝓛 w64) n (vint w64 n ∷ []) (refl, l)

@@ -7,7 +7,7 @@ use mathlib.Core.Path.{refl}
 use Prim.Native.Nat.{ℕ}
 use mathlib.Core.List.{List, [], ◌∷◌}
 use seplogic.Ra.Ura.{Ura}
-use seplogic.Ra.TreeShare.{full_share}
+use base.Fraction.{full_share}
 use mir.Syntax.{Lifetime}
 use mir.Val.{Val, vptr}
 use base.Stored.{Gv}

@@ -2,8 +2,6 @@
 
 -- The device as a value, and what each device call makes of it: 01, "The device (added)", in its order.
 pub mod Device
--- Calls that antt computes, on one slot of four bytes (the model asks nothing of the size) and on file offsets.
-pub mod Examples
 -- The laws by which alone the pool speaks of a device.
 pub mod AnyDevice
 -- A slot's part of the bytes, and its block, where bytes are laid into a slot.

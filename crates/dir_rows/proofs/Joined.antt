@@ -11,7 +11,7 @@ use Rattle.lists.specs.Bools.{not_both}
 use Rattle.lists.specs.Distinct.{In, Distinct, distinct_append}
 use Rattle.lists.specs.Distinct.Distinct.{none, more}
 use Rattle.path.specs.Path.{components, same_path, normal, ancestors}
-use Rattle.path.specs.Theorems.{same_path_lem, components_normal, same_normal}
+use Rattle.path.proofs.Theorems.{same_path_lem, components_normal, same_normal}
 use Rattle.path.proofs.Ancestors.{ancestor_normal}
 use Rattle.dir_rows.specs.Dirs.{Normals, Dirs, has_path, absent, joined}
 use Rattle.dir_rows.specs.Rows.{Short}

@@ -13,8 +13,8 @@ use Rattle.lists.specs.Bools.{or_left, or_right}
 use Rattle.lists.specs.Distinct.{In, Distinct}
 use Rattle.lists.specs.Distinct.Distinct.{none, more}
 use Rattle.path.specs.Path.{components, normal, join, init, is_root, idle, parent_of, fronts, ancestors}
-use Rattle.path.specs.Parts.{AllNamed, Formed, formed}
-use Rattle.path.specs.Theorems.{components_normal, same_normal, normal_normal, normal_short}
+use Rattle.path.proofs.Parts.{AllNamed, Formed, formed}
+use Rattle.path.proofs.Theorems.{components_normal, same_normal, normal_normal, normal_short}
 use Rattle.path.proofs.Ancestors.{ancestors_parent, ancestors_none, parent_fewer, ancestors_same, ancestors_up, ancestor_normal, ancestor_short, ancestors_distinct, ancestor_of, front_shorter}
 use Rattle.dir_rows.specs.Dirs.{Normals, Dirs, has_path, absent, joined, registered, registered_with, joined_each, joined_until}
 use Rattle.dir_rows.specs.Rows.{Short}

@@ -21,18 +21,14 @@ use Rattle.inner_open.specs.Files.{open_read_m}
 use lib.Dec.{eqb}
 
 -- what a test said of a flag, of what the flag stands for
-pub told : {t u v : Bool} → t ≡ u → not t ≡ v → not u ≡ v
-told e f = sym (ap not e) ∙ f
+pub told : {t u v : Bool} → t ≡ u → t ≡ v → not u ≡ not v
+told e f = ap not (sym e ∙ f)
 
 -- ---- copies
 
--- a copy lays what is copied over the front
-pub copied : (s d : List ℕ) → take (length s) s ++ drop (length s) d ≡ laid d 0 s
-copied s d = rw take-length (sym (laid_front d s))
-
--- and leaves nothing else if there is room for no more
-pub copied_whole : (s d : List ℕ) → length s ≡ length d → take (length s) s ++ drop (length s) d ≡ s
-copied_whole s d e = copied s d ∙ laid_whole d s e
+-- a copy to the front lays what is copied over it
+pub copied : (s d o : List ℕ) (n : ℕ) → length s ≡ n → o ≡ s ++ drop n d → o ≡ laid d 0 s
+copied s d o n e f = f ∙ ap (λ (k : ℕ). s ++ drop k d) (sym e) ∙ sym (laid_front d s)
 
 -- ---- header_encode
 
@@ -98,9 +94,9 @@ module _ (s out : List ℕ) where
   unfolding spelled
   spelled_small e f h = ap (λ (x : ℕ). outcome x out) e ∙ rw (lt-ltb (length out) (length s) (rw f at h))
 
-  pub spelled_done : {r n : ℕ} {o : List ℕ} → n ≡ length s → n ≤ length out → (o ≡ laid out 0 s) × (r ≡ length s) → outcome r o ≡ spelled s out
+  pub spelled_done : {r n : ℕ} {o : List ℕ} → n ≡ length s → n ≤ length out → o ≡ laid out 0 s → r ≡ length s → outcome r o ≡ spelled s out
   unfolding spelled
-  spelled_done f h e = ap₂ outcome e.1 e.0 ∙ rw (le-ltb (length out) (length s) (rw f at h))
+  spelled_done f h e g = ap₂ outcome g e ∙ rw (le-ltb (length out) (length s) (rw f at h))
 
 module _ (path out : List ℕ) where
   pub normal_no_text : {r : ℕ} → r ≡ refusal 3 → not (is_text path) ≡ true → outcome r out ≡ normal_call path out

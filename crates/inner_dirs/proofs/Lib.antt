@@ -6,3 +6,5 @@ pub mod Ways
 pub mod Syncing
 -- "A pool stays a pool" after create_dir_all and sync_dir, and the numbers that the calls come to.
 pub mod Stays
+-- Directories in small: 46 is `.`, 47 is `/`, 97 is `a`, 98 is `b`, 99 is `c`.
+pub mod Examples

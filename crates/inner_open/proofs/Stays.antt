@@ -12,7 +12,7 @@ use Rattle.limits.specs.Limits.{max_path, last_counter}
 use Rattle.lists.specs.Distinct.{In}
 use Rattle.text.specs.Text.{is_text}
 use Rattle.path.specs.Path.{components, same_path, normal, ancestors}
-use Rattle.path.specs.Theorems.{same_path_lem, normal_short}
+use Rattle.path.proofs.Theorems.{same_path_lem, normal_short}
 use Rattle.device.specs.declared.Geometry.{Geometry}
 use Rattle.device.specs.Device.{Dev, data_truncate_m}
 use Rattle.device.specs.AnyDevice.{truncate}

@@ -10,7 +10,7 @@ use borrow.Author.Tests.{eq-eqb, ne_eqb, lt-ltb, le-ltb}
 use Rattle.limits.specs.Limits.{max_path, dir_width, last_counter}
 use Rattle.lists.specs.Distinct.{In}
 use Rattle.path.specs.Path.{normal, ancestors}
-use Rattle.path.specs.Theorems.{normal_short}
+use Rattle.path.proofs.Theorems.{normal_short}
 use Rattle.device.specs.declared.Place.{Place}
 use Rattle.device.specs.declared.Geometry.{Geometry}
 use Rattle.device.specs.Device.{Dev, dev, Shape, data_truncate_m}
@@ -25,7 +25,8 @@ use Rattle.pool_state.specs.declared.Pool.{Pool}
 use Rattle.pool_state.specs.declared.Popped.{Popped}
 use Rattle.pool_state.specs.State.{State, Valid, Bufs, bufs, view, pool_of, queue_of, flat, IsPool}
 use Rattle.pool_state.specs.Queue.{queued, unqueued, spent, pushed, popped, ticked}
-use Rattle.pool_state.specs.InBuffers.{is_pool_lem, pool_canon, pool_rows, pool_dirs, together, queue_fits, pop_pool, pop_flat, spend_flat, push_flat, first_in, unqueued_valid, spent_valid}
+use Rattle.pool_state.proofs.Pops.{pop_pool, pop_flat}
+use Rattle.pool_state.specs.InBuffers.{is_pool_lem, pool_canon, pool_rows, pool_dirs, together, queue_fits, spend_flat, push_flat, first_in, unqueued_valid, spent_valid}
 use Rattle.pool_state.specs.Changes.{with_row, with_dirs, row_flat}
 use Rattle.pool_steps.specs.World.{World, world, Lent, lent, view_w, flat_w, Ready}
 use Rattle.pool_steps.specs.Steps.{fine_m, release_m}

@@ -11,7 +11,7 @@ use lib.ListN.{length, set, length-set}
 use borrow.Author.Tests.{ltb-true, ltb-false}
 use Rattle.limits.specs.Limits.{last_counter}
 use Rattle.lists.specs.Distinct.{In}
-use Rattle.path.specs.Theorems.{same_path_lem}
+use Rattle.path.proofs.Theorems.{same_path_lem}
 use Rattle.header.specs.Block.{bound_header, encoded}
 use Rattle.device.specs.declared.Geometry.{Geometry}
 use Rattle.slot_rows.specs.Rows.{unbound, at, path_of, len_of, resized, holds, find}

@@ -12,7 +12,7 @@ use Rattle.limits.specs.Limits.{max_path, last_counter}
 use Rattle.lists.specs.Distinct.{In}
 use Rattle.text.specs.Text.{is_text}
 use Rattle.path.specs.Path.{same_path}
-use Rattle.path.specs.Theorems.{same_path_lem}
+use Rattle.path.proofs.Theorems.{same_path_lem}
 use Rattle.device.specs.declared.Geometry.{Geometry}
 use Rattle.slot_rows.specs.Rows.{file, bound, at, is_bound, path_of, len_of, holds, find}
 use Rattle.slot_rows.proofs.Finding.{find_holds, holds_bound, holds_path}

@@ -15,7 +15,7 @@ use Rattle.text.specs.Text.{is_text}
 use Rattle.text.specs.Text as Text
 use Rattle.text.proofs.Grammar.{text_complete}
 use Rattle.path.specs.Path.{components, ancestors}
-use Rattle.path.specs.Theorems.{same_path_lem, normal_short}
+use Rattle.path.proofs.Theorems.{same_path_lem, normal_short}
 use Rattle.header.specs.declared.Header.{Header}
 use Rattle.header.specs.declared.Decoded.{Decoded}
 use Rattle.header.specs.declared.Decoded.TheVariants.{Absent, Found}

@@ -9,7 +9,7 @@ use lib.ListN.{length, take, set, length-append, length-set}
 use lib.Seq.{take_all, take-take, take_at}
 use borrow.Author.Tests.{leb-true, leb-false, le-leb, lt-leb}
 use Rattle.path.specs.Path.{ancestors}
-use Rattle.path.specs.Theorems.{normal_short}
+use Rattle.path.proofs.Theorems.{normal_short}
 use Rattle.slot_rows.specs.Rows.{Row, none, path_of}
 use Rattle.slot_rows.specs.Rows as Rows
 use Rattle.dir_rows.specs.Dirs.{Dirs, absent, joined, registered}

@@ -13,7 +13,7 @@ use Rattle.limits.specs.Limits.{max_path, dir_width, last_counter}
 use Rattle.lists.specs.Blocks.{pad, cat}
 use Rattle.lists.specs.Distinct.{In}
 use Rattle.path.specs.Path.{normal, ancestors}
-use Rattle.path.specs.Theorems.{normal_short}
+use Rattle.path.proofs.Theorems.{normal_short}
 use Rattle.slot_rows.specs.Rows.{Row, none, at, is_bound, path_of, rows_of, flat_nums, flat_names, Flat}
 use Rattle.slot_rows.specs.Rows as Rows
 use Rattle.slot_rows.proofs.InBuffers.{length_rows}

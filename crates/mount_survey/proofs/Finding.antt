@@ -14,7 +14,7 @@ use lib.Seq.{take-suc, drop-cons, length-take-le, get_or-take, get_or-set_other,
 use Rattle.limits.specs.Limits.{max_path}
 use Rattle.lists.specs.Blocks.{pad, snoc_pad}
 use Rattle.path.specs.Path.{same_path, key_of}
-use Rattle.path.specs.Theorems.{key_same}
+use Rattle.path.proofs.Theorems.{key_same}
 use Rattle.slot_rows.specs.Rows.{Row, unbound, bound, none, at, is_bound, path_of, gen_of, holds, find, rows_of, Flat}
 use Rattle.slot_rows.proofs.InBuffers.{name_part}
 use Rattle.slot_rows.proofs.Finding.{holds_unbound, holds_path, find_holds, find_le, find_is, find_absent}

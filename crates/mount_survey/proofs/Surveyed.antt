@@ -15,7 +15,7 @@ use lib.Seq.{get_or-set_same, get_or-set_other, set-append_seam, set-append_left
 use Rattle.limits.specs.Limits.{last_counter}
 use Rattle.lists.specs.Distinct.{In, snoc_in, Distinct, none, distinct_snoc}
 use Rattle.path.specs.Path.{components, fronts, ancestors}
-use Rattle.path.specs.Theorems.{same_path_lem}
+use Rattle.path.proofs.Theorems.{same_path_lem}
 use Rattle.slot_rows.specs.Rows as Rows
 use Rattle.slot_rows.specs.Rows.{Row, unbound, bound, at, is_bound, path_of, gen_of, holds, find}
 use Rattle.slot_rows.proofs.Finding.{holds_bound, holds_path, find_holds, find_none}

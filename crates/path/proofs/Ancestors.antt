@@ -5,8 +5,8 @@ use Rattle.lists.specs.Distinct.{In, Distinct}
 use Rattle.lists.specs.Distinct.Distinct.{none, more}
 use Rattle.path.specs.Path.{components, init, join, normal, parent_of, fronts, ancestors, last_of}
 use Rattle.path.specs.Walk.{up_from, Above}
-use Rattle.path.specs.Parts.{Formed, formed, formed_front, components_join, join_front}
-use Rattle.path.specs.Theorems.{normal_short}
+use Rattle.path.proofs.Parts.{Formed, formed, formed_front, components_join, join_front}
+use Rattle.path.proofs.Theorems.{normal_short}
 
 -- ---- fronts
 

@@ -4,7 +4,7 @@ use Rattle.le.proofs.Parts.{part_append}
 use Rattle.lists.specs.Same.{same, same_bytes, same_snoc, same_length}
 use Rattle.path.specs.Path.{idle, names, split, components, same_path}
 use Rattle.path.specs.Walk.{rest, Free, Starts, ended, Last}
-use Rattle.path.specs.Parts.{components_append, components_one, rest_one, rest_nil, split_one}
+use Rattle.path.proofs.Parts.{components_append, components_one, rest_one, rest_nil, split_one}
 
 -- ---- the start of a part
 

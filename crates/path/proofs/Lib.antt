@@ -18,3 +18,11 @@ pub mod Keys
 pub mod Slashes
 -- What holds of the ancestors of a path, which are its proper fronts in normal spelling, and of its parent, which is the nearest.
 pub mod Ancestors
+-- The examples of 01, "Path equality", and of the documentation of std::path::Components. 97 is `a`, 98 is `b`.
+pub mod Examples
+-- How parts and components come apart and go together: the laws from which the theorems and the functions' proofs are made.
+pub mod Parts
+-- What holds of paths, for the crates above: equality, normal spelling, order and key.
+pub mod Theorems
+-- A normal spelling, told from its bytes: a text is its parts, each but the first behind a slash.
+pub mod SpellingLaws

@@ -8,7 +8,7 @@ use Rattle.lists.specs.declared.Ordering.{Ordering}
 use Rattle.lists.specs.declared.Ordering.TheVariants.{Less, Equal, Greater}
 use Rattle.path.specs.Path.{is_root, slash, join, normal, path_order}
 use Rattle.path.specs.Walk.{left, Next, Free, name_order}
-use Rattle.path.specs.Parts.{First, Formed, no_root}
+use Rattle.path.proofs.Parts.{First, Formed, no_root}
 use Rattle.path.proofs.Walks.{left_formed, next_none, next_some}
 
 -- ---- two names, at a place of both

@@ -5,8 +5,8 @@ use Rattle.le.specs.Le.{laid}
 use Rattle.lists.specs.declared.Found.TheVariants.{At, Nothing}
 use Rattle.path.specs.Path.{components, same_path, init, is_root, has_parent, is_parent, join, normal, parent_of, parent_len, fronts, ancestors}
 use Rattle.path.specs.Walk.{Last, UpTo, parent_laid, up_from, Above}
-use Rattle.path.specs.Parts.{AllNamed, Formed, formed, no_root}
-use Rattle.path.specs.Theorems.{no_components}
+use Rattle.path.proofs.Parts.{AllNamed, Formed, formed, no_root}
+use Rattle.path.proofs.Theorems.{no_components}
 use Rattle.path.proofs.Ancestors.{fronts_nil, fronts_some}
 use Rattle.path.proofs.Walks.{root_at}
 use Rattle.path.proofs.Backs.{components_none, back_slash, last_none, last_some}

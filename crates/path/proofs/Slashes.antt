@@ -3,7 +3,7 @@ use Rattle.std.proofs.Common.{◌≡◌, ℕ, suc, ◌+◌, ◌-◌, ◌<◌, �
 use Rattle.lists.specs.Same.{same_bytes}
 use Rattle.path.specs.Path.{normal}
 use Rattle.path.specs.Spelling.{idle_slash, has_idle, is_normal}
-use Rattle.path.specs.SpellingLaws.{normal_by_bytes}
+use Rattle.path.proofs.SpellingLaws.{normal_by_bytes}
 
 -- ---- the loop
 

@@ -2,7 +2,7 @@
 use Rattle.std.proofs.Common.{◌≡◌, ℕ, suc, ◌+◌, ◌-◌, ◌<◌, ◌≤◌, Bool, true, false, cond, eqb, List, [], ◌∷◌, length, get_or, take, drop, sym, refl, ap, ◌∙◌, add-one, arith, length-drop, drop_of_length-le, length-take-le, drop-cons, drop-drop, le-ltb, lt-ltb, eq-eqb, ne_eqb}
 use Rattle.path.specs.Path.{idle, names, split, components, is_root}
 use Rattle.path.specs.Walk.{run, rest, left, found, Next, NextName}
-use Rattle.path.specs.Parts.{rest_step, rest_slash, rest_nil, rest_named, components_step, formed, named_formed, Formed}
+use Rattle.path.proofs.Parts.{rest_step, rest_slash, rest_nil, rest_named, components_step, formed, named_formed, Formed}
 
 -- ---- the run to the next slash
 

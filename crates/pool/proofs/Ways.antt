@@ -6,7 +6,6 @@ use mathlib.Core.Bool.{Bool, true, false, cond}
 use mathlib.Core.List.{List, ◌++◌}
 use lib.ListN.{length, take}
 use lib.Seq.{take_at, length-take-le}
-use borrow.Author.Tests.{eq-eqb, ne_eqb}
 use Rattle.limits.specs.Limits.{row_width}
 use Rattle.device.specs.declared.Geometry.{Geometry}
 use Rattle.device.specs.declared.Place.{Place}

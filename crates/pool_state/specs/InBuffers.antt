@@ -119,7 +119,7 @@ pop_view q h k =
     let e : q.free ≡ suc (q.free - 1) = omega arith in
     take_shift q.queue (q.free - 1) (omega arith) ∙ ap (λ (n : ℕ). drop 1 (take n q.queue)) (sym e)
 
-shift_pad : (w : ℕ) (l : List ℕ) → 0 < length l → length l ≤ w → shifted (pad w l) ≡ pad w (drop 1 l)
+pub shift_pad : (w : ℕ) (l : List ℕ) → 0 < length l → length l ≤ w → shifted (pad w l) ≡ pad w (drop 1 l)
 unfolding shifted
 shift_pad w [] p h = absurd (omega arith)
 shift_pad w (x ∷ l) p h =
@@ -136,12 +136,6 @@ module _ (s : State) (q : Pool) (e : q ≡ pool_of s) where
       let n : length (s.queue ++ (i ∷ [])) ≡ length s.queue + 1 = length-append s.queue (i ∷ []) in
       rw (e, n, snoc_pad 64 s.queue i h)
 
-  pub pop_pool : 0 < length s.queue → length s.queue ≤ 64 → ((popped q).slot ≡ get_or s.queue 0 0) × ((popped q).pool ≡ pool_of (unqueued s))
-  unfolding popped pool_of unqueued
-  pop_pool p h =
-      let n : length (drop 1 s.queue) ≡ length s.queue - 1 = length-drop 1 s.queue in
-      (rw e (get_or_pad 64 s.queue 0 h), rw (e, n, shift_pad 64 s.queue p h))
-
   pub spend_pool : ticked q ≡ pool_of (spent s)
   unfolding ticked pool_of spent
   spend_pool = rw e
@@ -156,10 +150,6 @@ module _ (s : State) (b : Bufs) (e : b ≡ flat s) where
   pub push_flat : (i : ℕ) → length s.queue < 64 → bufs (pushed i b.pool) b.nums b.names b.dirs ≡ flat (queued i s)
   unfolding flat queued
   push_flat i h = rw (push_pool s b.pool record_of i h, e)
-
-  pub pop_flat : 0 < length s.queue → length s.queue ≤ 64 → bufs (popped b.pool).pool b.nums b.names b.dirs ≡ flat (unqueued s)
-  unfolding flat unqueued
-  pop_flat p h = rw ((pop_pool s b.pool record_of p h).1, e)
 
   pub spend_flat : bufs (ticked b.pool) b.nums b.names b.dirs ≡ flat (spent s)
   unfolding flat spent

@@ -6,5 +6,3 @@ pub mod World
 pub mod Steps
 -- What a call comes to: its number (01, "Numbers that come back"), its further results, and what it leaves behind.
 pub mod Outcome
--- Releases of slot 1 in a pool of three slots, the third free, with counter 7.
-pub mod Examples

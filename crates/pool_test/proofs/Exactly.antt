@@ -17,7 +17,7 @@ use Rattle.lists.specs.Distinct.{In, Distinct}
 use Rattle.lists.specs.Distinct.Distinct.{none, more}
 use Rattle.text.specs.Text.{is_text, walk_of}
 use Rattle.path.specs.Path.{components, same_path, normal, ancestors}
-use Rattle.path.specs.Theorems.{same_path_lem, same_path_refl, same_normal}
+use Rattle.path.proofs.Theorems.{same_path_lem, same_path_refl, same_normal}
 use Rattle.path.proofs.Ancestors.{ancestor_normal}
 use Rattle.slot_rows.specs.Rows.{Row, at, is_bound, path_of, gen_of, holds, find, rows_of}
 use Rattle.slot_rows.proofs.InBuffers.{length_rows}

@@ -16,7 +16,7 @@ use Rattle.lists.specs.Same.{same_bytes, same_bytes_refl, same_length, same_byte
 use Rattle.text.specs.Greatest.{greatest}
 use Rattle.lists.specs.Runs.{any_not, any_none}
 use Rattle.path.specs.Path.{text_key, key_of}
-use Rattle.path.specs.Theorems.{same_path_refl, key_other}
+use Rattle.path.proofs.Theorems.{same_path_refl, key_other}
 use Rattle.slot_rows.specs.Rows.{Row, at, is_bound, path_of, holds, find}
 use Rattle.slot_rows.proofs.Finding.{holds_unbound, holds_path, find_is}
 use Rattle.dir_rows.specs.Rows.{dir_at}

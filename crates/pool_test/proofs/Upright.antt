@@ -16,9 +16,9 @@ use Rattle.lists.specs.Same.{same_bytes, same_bytes_refl, same_bytes_eq}
 use Rattle.lists.specs.Distinct.{In}
 use Rattle.path.specs.Path.{components, normal, ancestors}
 use Rattle.path.specs.Walk.{Above, up_from}
-use Rattle.path.specs.Theorems.{same_normal}
+use Rattle.path.proofs.Theorems.{same_normal}
 use Rattle.path.specs.Spelling.{idle_slash, has_idle, is_normal}
-use Rattle.path.specs.SpellingLaws.{normal_by_bytes}
+use Rattle.path.proofs.SpellingLaws.{normal_by_bytes}
 use Rattle.path.proofs.Slashes.{short}
 use Rattle.dir_rows.specs.Dirs.{has_path}
 use Rattle.dir_rows.specs.Rows.{dir_at, dirs_of}

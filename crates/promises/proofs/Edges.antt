@@ -19,7 +19,7 @@ use Rattle.header.specs.declared.Decoded.TheVariants.{Found}
 use Rattle.header.specs.Block.{decoded}
 use Rattle.header.specs.Block as Block
 use Rattle.path.specs.Path.{same_path}
-use Rattle.path.specs.Theorems.{same_path_refl, same_path_sym, same_path_trans}
+use Rattle.path.proofs.Theorems.{same_path_refl, same_path_sym, same_path_trans}
 use Rattle.device.specs.declared.Geometry.{Geometry}
 use Rattle.device.specs.Device.{Shape, phys_of}
 use Rattle.device.specs.Slots.{part_of}

@@ -11,7 +11,7 @@ use lib.ListN.{length, get_or, take, drop}
 use borrow.Author.Tests.{lt-ltb, eq-eqb}
 use Rattle.text.specs.Text.{is_text}
 use Rattle.path.specs.Path.{same_path}
-use Rattle.path.specs.Theorems.{same_path_sym, same_path_trans}
+use Rattle.path.proofs.Theorems.{same_path_sym, same_path_trans}
 use Rattle.device.specs.declared.Geometry.{Geometry}
 use Rattle.device.specs.Device.{phys_of}
 use Rattle.device.specs.Slots.{part_of}

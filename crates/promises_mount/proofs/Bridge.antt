@@ -13,7 +13,7 @@ use Rattle.lists.specs.Runs.{tab}
 use Rattle.lists.specs.Same.{same_bytes}
 use Rattle.lists.specs.Distinct.{snoc_in}
 use Rattle.path.specs.Path.{same_path, normal, ancestors}
-use Rattle.path.specs.Theorems.{same_path_sym, normal_bytes}
+use Rattle.path.proofs.Theorems.{same_path_sym, normal_bytes}
 use Rattle.path.proofs.Ancestors.{ancestor_normal}
 use Rattle.device.specs.declared.Geometry.{Geometry}
 use Rattle.device.specs.Device.{Dev}

@@ -7,7 +7,7 @@ use mathlib.Core.List.{List}
 use lib.ListN.{length}
 use Rattle.lists.specs.Same.{same_bytes, same_bytes_eq, same_bytes_refl}
 use Rattle.path.specs.Path.{same_path, ancestors}
-use Rattle.path.specs.Theorems.{same_path_lem, same_path_refl, same_path_sym, same_path_trans}
+use Rattle.path.proofs.Theorems.{same_path_lem, same_path_refl, same_path_sym, same_path_trans}
 use Rattle.path.proofs.Ancestors.{ancestors_same}
 use Rattle.device.specs.declared.Geometry.{Geometry}
 use Rattle.device.specs.Device.{Dev, Shape}

@@ -5,8 +5,7 @@ use seplogic.Ra.Ura.{Ura}
 use base.Logic.{SProp}
 use prog.Memory.{Memory}
 use prog.Routine.{Routine}
-use prog.Wp.{Heap}
-use ghost.Atoms.{Atoms}
+use types.Logic.{Logic}
 use contract.Monad.{Fun}
 use contract.Lifetimes.{Lfts}
 use contract.Notation as Notation
@@ -29,11 +28,11 @@ use Rattle.harness.specs.contracts.record_check as record-check
 use Rattle.harness.specs.contracts.record_lookups as record-lookups
 use Rattle.promises_tied.specs.Decided.{Decided}
 
-module _ {M : Type 1} (𝓤 : Ura M) (H : Heap 𝓤) (A : Atoms 𝓤) (mem : Memory → SProp 𝓤) (run : Routine → Fun 𝓤) where
-  abbrev 𝓛 : Notation.Connectives 𝓤
-  𝓛 = Notation.connectives 𝓤
+module _ {M : Type 1} {𝓤 : Ura M} (𝓛 : Logic 𝓤) (mem : Memory → SProp 𝓤) (run : Routine → Fun 𝓤) where
+  abbrev 𝓝 : Notation.Connectives 𝓤
+  𝓝 = Notation.connectives 𝓤
 
-  open 𝓛 use {⌜◌⌝, ⊤ₛ}
+  open 𝓝 use {⌜◌⌝, ⊤ₛ}
 
   -- slot_check: what its end shows, and what it comes to.
   module _ (κs : Lfts 1) (a : Args slot-check.signature κs) where
@@ -45,14 +44,14 @@ module _ {M : Type 1} (𝓤 : Ura M) (H : Heap 𝓤) (A : Atoms 𝓤) (mem : Mem
         fnv_from a.0 a.1.0.now
 
     abbrev pub SlotCheckIsTotal : Type 2
-    SlotCheckIsTotal = (slot-check.clauses 𝓤 H A mem run κs a).requires tt ≡ ⊤ₛ
+    SlotCheckIsTotal = (slot-check.clauses 𝓛 mem run κs a).requires tt ≡ ⊤ₛ
 
     abbrev pub SlotCheckIsCall : Type 2
     SlotCheckIsCall = (r : Res slot-check.signature κs) (z : AtExit slot-check.ended κs)
-        → (slot-check.clauses 𝓤 H A mem run κs a).ensures tt r z ≡ ⌜ slot_check_sees r z ≡ slot_check_call ⌝
+        → (slot-check.clauses 𝓛 mem run κs a).ensures tt r z ≡ ⌜ slot_check_sees r z ≡ slot_check_call ⌝
 
     abbrev pub SlotCheckOneOutcome : Type 1
-    SlotCheckOneOutcome = Decided 𝓤 slot-check.ended (slot-check.clauses 𝓤 H A mem run) κs a slot_check_sees
+    SlotCheckOneOutcome = Decided 𝓤 slot-check.ended (slot-check.clauses 𝓛 mem run) κs a slot_check_sees
 
   -- header_encode: what its end shows, and what it comes to.
   module _ (κs : Lfts 2) (a : Args header-encode.signature κs) where
@@ -64,14 +63,14 @@ module _ {M : Type 1} (𝓤 : Ura M) (H : Heap 𝓤) (A : Atoms 𝓤) (mem : Mem
         encode_call a.0 a.1.0 a.1.1.0 a.1.1.1.0.now a.1.1.1.1.0.now
 
     abbrev pub HeaderEncodeIsTotal : Type 2
-    HeaderEncodeIsTotal = (header-encode.clauses 𝓤 H A mem run κs a).requires tt ≡ ⊤ₛ
+    HeaderEncodeIsTotal = (header-encode.clauses 𝓛 mem run κs a).requires tt ≡ ⊤ₛ
 
     abbrev pub HeaderEncodeIsCall : Type 2
     HeaderEncodeIsCall = (r : Res header-encode.signature κs) (z : AtExit header-encode.ended κs)
-        → (header-encode.clauses 𝓤 H A mem run κs a).ensures tt r z ≡ ⌜ header_encode_sees r z ≡ header_encode_call ⌝
+        → (header-encode.clauses 𝓛 mem run κs a).ensures tt r z ≡ ⌜ header_encode_sees r z ≡ header_encode_call ⌝
 
     abbrev pub HeaderEncodeOneOutcome : Type 1
-    HeaderEncodeOneOutcome = Decided 𝓤 header-encode.ended (header-encode.clauses 𝓤 H A mem run) κs a header_encode_sees
+    HeaderEncodeOneOutcome = Decided 𝓤 header-encode.ended (header-encode.clauses 𝓛 mem run) κs a header_encode_sees
 
   -- header_decode: what its end shows, and what it comes to.
   module _ (κs : Lfts 2) (a : Args header-decode.signature κs) where
@@ -83,14 +82,14 @@ module _ {M : Type 1} (𝓤 : Ura M) (H : Heap 𝓤) (A : Atoms 𝓤) (mem : Mem
         decode_call a.0.now a.1.0.now
 
     abbrev pub HeaderDecodeIsTotal : Type 2
-    HeaderDecodeIsTotal = (header-decode.clauses 𝓤 H A mem run κs a).requires tt ≡ ⊤ₛ
+    HeaderDecodeIsTotal = (header-decode.clauses 𝓛 mem run κs a).requires tt ≡ ⊤ₛ
 
     abbrev pub HeaderDecodeIsCall : Type 2
     HeaderDecodeIsCall = (r : Res header-decode.signature κs) (z : AtExit header-decode.ended κs)
-        → (header-decode.clauses 𝓤 H A mem run κs a).ensures tt r z ≡ ⌜ header_decode_sees r z ≡ header_decode_call ⌝
+        → (header-decode.clauses 𝓛 mem run κs a).ensures tt r z ≡ ⌜ header_decode_sees r z ≡ header_decode_call ⌝
 
     abbrev pub HeaderDecodeOneOutcome : Type 1
-    HeaderDecodeOneOutcome = Decided 𝓤 header-decode.ended (header-decode.clauses 𝓤 H A mem run) κs a header_decode_sees
+    HeaderDecodeOneOutcome = Decided 𝓤 header-decode.ended (header-decode.clauses 𝓛 mem run) κs a header_decode_sees
 
   -- text_is: what its end shows, and what it comes to.
   module _ (κs : Lfts 1) (a : Args text-is.signature κs) where
@@ -102,14 +101,14 @@ module _ {M : Type 1} (𝓤 : Ura M) (H : Heap 𝓤) (A : Atoms 𝓤) (mem : Mem
         text_call a.0.now
 
     abbrev pub TextIsIsTotal : Type 2
-    TextIsIsTotal = (text-is.clauses 𝓤 H A mem run κs a).requires tt ≡ ⊤ₛ
+    TextIsIsTotal = (text-is.clauses 𝓛 mem run κs a).requires tt ≡ ⊤ₛ
 
     abbrev pub TextIsIsCall : Type 2
     TextIsIsCall = (r : Res text-is.signature κs) (z : AtExit text-is.ended κs)
-        → (text-is.clauses 𝓤 H A mem run κs a).ensures tt r z ≡ ⌜ text_is_sees r z ≡ text_is_call ⌝
+        → (text-is.clauses 𝓛 mem run κs a).ensures tt r z ≡ ⌜ text_is_sees r z ≡ text_is_call ⌝
 
     abbrev pub TextIsOneOutcome : Type 1
-    TextIsOneOutcome = Decided 𝓤 text-is.ended (text-is.clauses 𝓤 H A mem run) κs a text_is_sees
+    TextIsOneOutcome = Decided 𝓤 text-is.ended (text-is.clauses 𝓛 mem run) κs a text_is_sees
 
   -- path_same: what its end shows, and what it comes to.
   module _ (κs : Lfts 2) (a : Args path-same.signature κs) where
@@ -121,14 +120,14 @@ module _ {M : Type 1} (𝓤 : Ura M) (H : Heap 𝓤) (A : Atoms 𝓤) (mem : Mem
         same_call a.0.now a.1.0.now
 
     abbrev pub PathSameIsTotal : Type 2
-    PathSameIsTotal = (path-same.clauses 𝓤 H A mem run κs a).requires tt ≡ ⊤ₛ
+    PathSameIsTotal = (path-same.clauses 𝓛 mem run κs a).requires tt ≡ ⊤ₛ
 
     abbrev pub PathSameIsCall : Type 2
     PathSameIsCall = (r : Res path-same.signature κs) (z : AtExit path-same.ended κs)
-        → (path-same.clauses 𝓤 H A mem run κs a).ensures tt r z ≡ ⌜ path_same_sees r z ≡ path_same_call ⌝
+        → (path-same.clauses 𝓛 mem run κs a).ensures tt r z ≡ ⌜ path_same_sees r z ≡ path_same_call ⌝
 
     abbrev pub PathSameOneOutcome : Type 1
-    PathSameOneOutcome = Decided 𝓤 path-same.ended (path-same.clauses 𝓤 H A mem run) κs a path_same_sees
+    PathSameOneOutcome = Decided 𝓤 path-same.ended (path-same.clauses 𝓛 mem run) κs a path_same_sees
 
   -- path_normal: what its end shows, and what it comes to.
   module _ (κs : Lfts 2) (a : Args path-normal.signature κs) where
@@ -140,14 +139,14 @@ module _ {M : Type 1} (𝓤 : Ura M) (H : Heap 𝓤) (A : Atoms 𝓤) (mem : Mem
         normal_call a.0.now a.1.0.now
 
     abbrev pub PathNormalIsTotal : Type 2
-    PathNormalIsTotal = (path-normal.clauses 𝓤 H A mem run κs a).requires tt ≡ ⊤ₛ
+    PathNormalIsTotal = (path-normal.clauses 𝓛 mem run κs a).requires tt ≡ ⊤ₛ
 
     abbrev pub PathNormalIsCall : Type 2
     PathNormalIsCall = (r : Res path-normal.signature κs) (z : AtExit path-normal.ended κs)
-        → (path-normal.clauses 𝓤 H A mem run κs a).ensures tt r z ≡ ⌜ path_normal_sees r z ≡ path_normal_call ⌝
+        → (path-normal.clauses 𝓛 mem run κs a).ensures tt r z ≡ ⌜ path_normal_sees r z ≡ path_normal_call ⌝
 
     abbrev pub PathNormalOneOutcome : Type 1
-    PathNormalOneOutcome = Decided 𝓤 path-normal.ended (path-normal.clauses 𝓤 H A mem run) κs a path_normal_sees
+    PathNormalOneOutcome = Decided 𝓤 path-normal.ended (path-normal.clauses 𝓛 mem run) κs a path_normal_sees
 
   -- path_parent: what its end shows, and what it comes to.
   module _ (κs : Lfts 2) (a : Args path_parent.signature κs) where
@@ -159,14 +158,14 @@ module _ {M : Type 1} (𝓤 : Ura M) (H : Heap 𝓤) (A : Atoms 𝓤) (mem : Mem
         parent_call a.0.now a.1.0.now
 
     abbrev pub PathParentIsTotal : Type 2
-    PathParentIsTotal = (path_parent.clauses 𝓤 H A mem run κs a).requires tt ≡ ⊤ₛ
+    PathParentIsTotal = (path_parent.clauses 𝓛 mem run κs a).requires tt ≡ ⊤ₛ
 
     abbrev pub PathParentIsCall : Type 2
     PathParentIsCall = (r : Res path_parent.signature κs) (z : AtExit path_parent.ended κs)
-        → (path_parent.clauses 𝓤 H A mem run κs a).ensures tt r z ≡ ⌜ path_parent_sees r z ≡ path_parent_call ⌝
+        → (path_parent.clauses 𝓛 mem run κs a).ensures tt r z ≡ ⌜ path_parent_sees r z ≡ path_parent_call ⌝
 
     abbrev pub PathParentOneOutcome : Type 1
-    PathParentOneOutcome = Decided 𝓤 path_parent.ended (path_parent.clauses 𝓤 H A mem run) κs a path_parent_sees
+    PathParentOneOutcome = Decided 𝓤 path_parent.ended (path_parent.clauses 𝓛 mem run) κs a path_parent_sees
 
   -- pool_script: what its end shows, and what it comes to.
   module _ (κs : Lfts 2) (a : Args pool-script.signature κs) where
@@ -178,14 +177,14 @@ module _ {M : Type 1} (𝓤 : Ura M) (H : Heap 𝓤) (A : Atoms 𝓤) (mem : Mem
         poured (script_m a.0.now) a.1.0.now
 
     abbrev pub PoolScriptIsTotal : Type 2
-    PoolScriptIsTotal = (pool-script.clauses 𝓤 H A mem run κs a).requires tt ≡ ⊤ₛ
+    PoolScriptIsTotal = (pool-script.clauses 𝓛 mem run κs a).requires tt ≡ ⊤ₛ
 
     abbrev pub PoolScriptIsCall : Type 2
     PoolScriptIsCall = (r : Res pool-script.signature κs) (z : AtExit pool-script.ended κs)
-        → (pool-script.clauses 𝓤 H A mem run κs a).ensures tt r z ≡ ⌜ pool_script_sees r z ≡ pool_script_call ⌝
+        → (pool-script.clauses 𝓛 mem run κs a).ensures tt r z ≡ ⌜ pool_script_sees r z ≡ pool_script_call ⌝
 
     abbrev pub PoolScriptOneOutcome : Type 1
-    PoolScriptOneOutcome = Decided 𝓤 pool-script.ended (pool-script.clauses 𝓤 H A mem run) κs a pool_script_sees
+    PoolScriptOneOutcome = Decided 𝓤 pool-script.ended (pool-script.clauses 𝓛 mem run) κs a pool_script_sees
 
   -- record_check: what its end shows, and what it comes to.
   module _ (κs : Lfts 3) (a : Args record-check.signature κs) where
@@ -198,14 +197,14 @@ module _ {M : Type 1} (𝓤 : Ura M) (H : Heap 𝓤) (A : Atoms 𝓤) (mem : Mem
         a.1.1.1.1.1.1.0 a.1.1.1.1.1.1.1.0
 
     abbrev pub RecordCheckIsTotal : Type 2
-    RecordCheckIsTotal = (record-check.clauses 𝓤 H A mem run κs a).requires tt ≡ ⊤ₛ
+    RecordCheckIsTotal = (record-check.clauses 𝓛 mem run κs a).requires tt ≡ ⊤ₛ
 
     abbrev pub RecordCheckIsCall : Type 2
     RecordCheckIsCall = (r : Res record-check.signature κs) (z : AtExit record-check.ended κs)
-        → (record-check.clauses 𝓤 H A mem run κs a).ensures tt r z ≡ ⌜ record_check_sees r z ≡ record_check_call ⌝
+        → (record-check.clauses 𝓛 mem run κs a).ensures tt r z ≡ ⌜ record_check_sees r z ≡ record_check_call ⌝
 
     abbrev pub RecordCheckOneOutcome : Type 1
-    RecordCheckOneOutcome = Decided 𝓤 record-check.ended (record-check.clauses 𝓤 H A mem run) κs a record_check_sees
+    RecordCheckOneOutcome = Decided 𝓤 record-check.ended (record-check.clauses 𝓛 mem run) κs a record_check_sees
 
   -- record_lookups: what its end shows, and what it comes to.
   module _ (κs : Lfts 4) (a : Args record-lookups.signature κs) where
@@ -218,11 +217,11 @@ module _ {M : Type 1} (𝓤 : Ura M) (H : Heap 𝓤) (A : Atoms 𝓤) (mem : Mem
         a.1.1.1.1.1.1.0 a.1.1.1.1.1.1.1.0 a.1.1.1.1.1.1.1.1.0.now a.1.1.1.1.1.1.1.1.1.0
 
     abbrev pub RecordLookupsIsTotal : Type 2
-    RecordLookupsIsTotal = (record-lookups.clauses 𝓤 H A mem run κs a).requires tt ≡ ⊤ₛ
+    RecordLookupsIsTotal = (record-lookups.clauses 𝓛 mem run κs a).requires tt ≡ ⊤ₛ
 
     abbrev pub RecordLookupsIsCall : Type 2
     RecordLookupsIsCall = (r : Res record-lookups.signature κs) (z : AtExit record-lookups.ended κs)
-        → (record-lookups.clauses 𝓤 H A mem run κs a).ensures tt r z ≡ ⌜ record_lookups_sees r z ≡ record_lookups_call ⌝
+        → (record-lookups.clauses 𝓛 mem run κs a).ensures tt r z ≡ ⌜ record_lookups_sees r z ≡ record_lookups_call ⌝
 
     abbrev pub RecordLookupsOneOutcome : Type 1
-    RecordLookupsOneOutcome = Decided 𝓤 record-lookups.ended (record-lookups.clauses 𝓤 H A mem run) κs a record_lookups_sees
+    RecordLookupsOneOutcome = Decided 𝓤 record-lookups.ended (record-lookups.clauses 𝓛 mem run) κs a record_lookups_sees

@@ -5,8 +5,7 @@ use seplogic.Ra.Ura.{Ura}
 use base.Logic.{SProp}
 use prog.Memory.{Memory}
 use prog.Routine.{Routine}
-use prog.Wp.{Heap}
-use ghost.Atoms.{Atoms}
+use types.Logic.{Logic}
 use contract.Monad.{Fun}
 use contract.Lifetimes.{Lfts}
 use contract.Notation as Notation
@@ -16,11 +15,11 @@ use Rattle.pool.specs.Face.{Asked, Left, Same, Placed}
 use Rattle.pool.specs.contracts.call as call
 use Rattle.promises_tied.specs.Decided.{Decided}
 
-module _ {M : Type 1} (𝓤 : Ura M) (H : Heap 𝓤) (A : Atoms 𝓤) (mem : Memory → SProp 𝓤) (run : Routine → Fun 𝓤) where
-  abbrev 𝓛 : Notation.Connectives 𝓤
-  𝓛 = Notation.connectives 𝓤
+module _ {M : Type 1} {𝓤 : Ura M} (𝓛 : Logic 𝓤) (mem : Memory → SProp 𝓤) (run : Routine → Fun 𝓤) where
+  abbrev 𝓝 : Notation.Connectives 𝓤
+  𝓝 = Notation.connectives 𝓤
 
-  open 𝓛 use {⌜◌⌝, ◌∗◌, ⊤ₛ}
+  open 𝓝 use {⌜◌⌝, ◌∗◌, ⊤ₛ}
 
   module _ (κs : Lfts 10) where
     -- What it is asked, and what it leaves.
@@ -56,13 +55,13 @@ module _ {M : Type 1} (𝓤 : Ura M) (H : Heap 𝓤) (A : Atoms 𝓤) (mem : Mem
     module _ (a : Args call.signature κs) where
       -- It asks for nothing: any input may come.
       abbrev pub CallIsTotal : Type 2
-      CallIsTotal = (call.clauses 𝓤 H A mem run κs a).requires tt ≡ ⊤ₛ
+      CallIsTotal = (call.clauses 𝓛 mem run κs a).requires tt ≡ ⊤ₛ
 
       -- Its two clauses are those of `Entered`.
       abbrev pub CallIsEntered : Type 2
       CallIsEntered = (r : Res call.signature κs) (z : AtExit call.ended κs)
-          → (call.clauses 𝓤 H A mem run κs a).ensures tt r z ≡ (⌜ Same (asked a) (left r z) ⌝ ∗ ⌜ Placed (left r z) ⌝)
+          → (call.clauses 𝓛 mem run κs a).ensures tt r z ≡ (⌜ Same (asked a) (left r z) ⌝ ∗ ⌜ Placed (left r z) ⌝)
 
       -- Two ends that it allows are the same, in the reply, the place, the records and every byte.
       abbrev pub CallOneOutcome : Type 1
-      CallOneOutcome = Decided 𝓤 call.ended (call.clauses 𝓤 H A mem run) κs a left
+      CallOneOutcome = Decided 𝓤 call.ended (call.clauses 𝓛 mem run) κs a left

@@ -4,8 +4,7 @@ use seplogic.Ra.Ura.{Ura}
 use base.Logic.{SProp}
 use prog.Memory.{Memory}
 use prog.Routine.{Routine}
-use prog.Wp.{Heap}
-use ghost.Atoms.{Atoms}
+use types.Logic.{Logic}
 use contract.Monad.{Fun}
 use contract.Lifetimes.{Lfts}
 use contract.Notation as Notation
@@ -20,11 +19,11 @@ use Rattle.calls_gate.specs.Promises.{End, ends}
 use Rattle.calls.specs.contracts.make as make
 use Rattle.promises_tied.specs.Decided.{Decided}
 
-module _ {M : Type 1} (𝓤 : Ura M) (H : Heap 𝓤) (A : Atoms 𝓤) (mem : Memory → SProp 𝓤) (run : Routine → Fun 𝓤) where
-  abbrev 𝓛 : Notation.Connectives 𝓤
-  𝓛 = Notation.connectives 𝓤
+module _ {M : Type 1} {𝓤 : Ura M} (𝓛 : Logic 𝓤) (mem : Memory → SProp 𝓤) (run : Routine → Fun 𝓤) where
+  abbrev 𝓝 : Notation.Connectives 𝓤
+  𝓝 = Notation.connectives 𝓤
 
-  open 𝓛 use {⌜◌⌝, ⊤ₛ}
+  open 𝓝 use {⌜◌⌝, ⊤ₛ}
 
   module _ (κs : Lfts 9) where
     -- What is lent, how it ends, and what it comes to.
@@ -53,13 +52,13 @@ module _ {M : Type 1} (𝓤 : Ura M) (H : Heap 𝓤) (A : Atoms 𝓤) (mem : Mem
     module _ (a : Args make.signature κs) where
       -- It asks for nothing.
       abbrev pub MakeIsTotal : Type 2
-      MakeIsTotal = (make.clauses 𝓤 H A mem run κs a).requires tt ≡ ⊤ₛ
+      MakeIsTotal = (make.clauses 𝓛 mem run κs a).requires tt ≡ ⊤ₛ
 
       -- Its clause is that the end is what the call comes to.
       abbrev pub MakeIsCall : Type 2
       MakeIsCall = (r : Res make.signature κs) (z : AtExit make.ended κs)
-          → (make.clauses 𝓤 H A mem run κs a).ensures tt r z ≡ ⌜ ends (end r z) ≡ called a ⌝
+          → (make.clauses 𝓛 mem run κs a).ensures tt r z ≡ ⌜ ends (end r z) ≡ called a ⌝
 
       -- Two ends that it allows are the same.
       abbrev pub MakeOneOutcome : Type 1
-      MakeOneOutcome = Decided 𝓤 make.ended (make.clauses 𝓤 H A mem run) κs a end
+      MakeOneOutcome = Decided 𝓤 make.ended (make.clauses 𝓛 mem run) κs a end

@@ -5,8 +5,7 @@ use seplogic.Ra.Ura.{Ura}
 use base.Logic.{SProp}
 use prog.Memory.{Memory}
 use prog.Routine.{Routine}
-use prog.Wp.{Heap}
-use ghost.Atoms.{Atoms}
+use types.Logic.{Logic}
 use contract.Monad.{Fun}
 use contract.Lifetimes.{Lfts}
 use contract.Notation as Notation
@@ -22,11 +21,11 @@ use Rattle.slot_calls.specs.contracts.flush_slot as flush-slot
 use Rattle.slot_calls.specs.contracts.truncate_slot as truncate-slot
 use Rattle.promises_tied.specs.Decided.{Decided}
 
-module _ {M : Type 1} (𝓤 : Ura M) (H : Heap 𝓤) (A : Atoms 𝓤) (mem : Memory → SProp 𝓤) (run : Routine → Fun 𝓤) where
-  abbrev 𝓛 : Notation.Connectives 𝓤
-  𝓛 = Notation.connectives 𝓤
+module _ {M : Type 1} {𝓤 : Ura M} (𝓛 : Logic 𝓤) (mem : Memory → SProp 𝓤) (run : Routine → Fun 𝓤) where
+  abbrev 𝓝 : Notation.Connectives 𝓤
+  𝓝 = Notation.connectives 𝓤
 
-  open 𝓛 use {⌜◌⌝, ⊤ₛ}
+  open 𝓝 use {⌜◌⌝, ⊤ₛ}
 
   -- read_slot: what its end shows, and what it comes to.
   module _ (κs : Lfts 5) (a : Args read-slot.signature κs) where
@@ -40,14 +39,14 @@ module _ {M : Type 1} (𝓤 : Ura M) (H : Heap 𝓤) (A : Atoms 𝓤) (mem : Mem
         (dev a.0.now a.1.0.now a.1.1.1.1.0.now)
 
     abbrev pub ReadSlotIsTotal : Type 2
-    ReadSlotIsTotal = (read-slot.clauses 𝓤 H A mem run κs a).requires tt ≡ ⊤ₛ
+    ReadSlotIsTotal = (read-slot.clauses 𝓛 mem run κs a).requires tt ≡ ⊤ₛ
 
     abbrev pub ReadSlotIsCall : Type 2
     ReadSlotIsCall = (r : Res read-slot.signature κs) (z : AtExit read-slot.ended κs)
-        → (read-slot.clauses 𝓤 H A mem run κs a).ensures tt r z ≡ ⌜ read_slot_sees r z ≡ read_slot_call ⌝
+        → (read-slot.clauses 𝓛 mem run κs a).ensures tt r z ≡ ⌜ read_slot_sees r z ≡ read_slot_call ⌝
 
     abbrev pub ReadSlotOneOutcome : Type 1
-    ReadSlotOneOutcome = Decided 𝓤 read-slot.ended (read-slot.clauses 𝓤 H A mem run) κs a read_slot_sees
+    ReadSlotOneOutcome = Decided 𝓤 read-slot.ended (read-slot.clauses 𝓛 mem run) κs a read_slot_sees
 
   -- write_slot: what its end shows, and what it comes to.
   module _ (κs : Lfts 5) (a : Args write-slot.signature κs) where
@@ -61,14 +60,14 @@ module _ {M : Type 1} (𝓤 : Ura M) (H : Heap 𝓤) (A : Atoms 𝓤) (mem : Mem
         (dev a.0.now a.1.0.now a.1.1.1.1.0.now)
 
     abbrev pub WriteSlotIsTotal : Type 2
-    WriteSlotIsTotal = (write-slot.clauses 𝓤 H A mem run κs a).requires tt ≡ ⊤ₛ
+    WriteSlotIsTotal = (write-slot.clauses 𝓛 mem run κs a).requires tt ≡ ⊤ₛ
 
     abbrev pub WriteSlotIsCall : Type 2
     WriteSlotIsCall = (r : Res write-slot.signature κs) (z : AtExit write-slot.ended κs)
-        → (write-slot.clauses 𝓤 H A mem run κs a).ensures tt r z ≡ ⌜ write_slot_sees r z ≡ write_slot_call ⌝
+        → (write-slot.clauses 𝓛 mem run κs a).ensures tt r z ≡ ⌜ write_slot_sees r z ≡ write_slot_call ⌝
 
     abbrev pub WriteSlotOneOutcome : Type 1
-    WriteSlotOneOutcome = Decided 𝓤 write-slot.ended (write-slot.clauses 𝓤 H A mem run) κs a write_slot_sees
+    WriteSlotOneOutcome = Decided 𝓤 write-slot.ended (write-slot.clauses 𝓛 mem run) κs a write_slot_sees
 
   -- sync_slot: what its end shows, and what it comes to.
   module _ (κs : Lfts 5) (a : Args sync-slot.signature κs) where
@@ -82,14 +81,14 @@ module _ {M : Type 1} (𝓤 : Ura M) (H : Heap 𝓤) (A : Atoms 𝓤) (mem : Mem
         (dev a.0.now a.1.0.now a.1.1.1.1.0.now)
 
     abbrev pub SyncSlotIsTotal : Type 2
-    SyncSlotIsTotal = (sync-slot.clauses 𝓤 H A mem run κs a).requires tt ≡ ⊤ₛ
+    SyncSlotIsTotal = (sync-slot.clauses 𝓛 mem run κs a).requires tt ≡ ⊤ₛ
 
     abbrev pub SyncSlotIsCall : Type 2
     SyncSlotIsCall = (r : Res sync-slot.signature κs) (z : AtExit sync-slot.ended κs)
-        → (sync-slot.clauses 𝓤 H A mem run κs a).ensures tt r z ≡ ⌜ sync_slot_sees r z ≡ sync_slot_call ⌝
+        → (sync-slot.clauses 𝓛 mem run κs a).ensures tt r z ≡ ⌜ sync_slot_sees r z ≡ sync_slot_call ⌝
 
     abbrev pub SyncSlotOneOutcome : Type 1
-    SyncSlotOneOutcome = Decided 𝓤 sync-slot.ended (sync-slot.clauses 𝓤 H A mem run) κs a sync_slot_sees
+    SyncSlotOneOutcome = Decided 𝓤 sync-slot.ended (sync-slot.clauses 𝓛 mem run) κs a sync_slot_sees
 
   -- flush_slot: what its end shows, and what it comes to.
   module _ (κs : Lfts 4) (a : Args flush-slot.signature κs) where
@@ -103,14 +102,14 @@ module _ {M : Type 1} (𝓤 : Ura M) (H : Heap 𝓤) (A : Atoms 𝓤) (mem : Mem
         (dev a.0.now a.1.0.now a.1.1.1.1.0.now)
 
     abbrev pub FlushSlotIsTotal : Type 2
-    FlushSlotIsTotal = (flush-slot.clauses 𝓤 H A mem run κs a).requires tt ≡ ⊤ₛ
+    FlushSlotIsTotal = (flush-slot.clauses 𝓛 mem run κs a).requires tt ≡ ⊤ₛ
 
     abbrev pub FlushSlotIsCall : Type 2
     FlushSlotIsCall = (r : Res flush-slot.signature κs) (z : AtExit flush-slot.ended κs)
-        → (flush-slot.clauses 𝓤 H A mem run κs a).ensures tt r z ≡ ⌜ flush_slot_sees r z ≡ flush_slot_call ⌝
+        → (flush-slot.clauses 𝓛 mem run κs a).ensures tt r z ≡ ⌜ flush_slot_sees r z ≡ flush_slot_call ⌝
 
     abbrev pub FlushSlotOneOutcome : Type 1
-    FlushSlotOneOutcome = Decided 𝓤 flush-slot.ended (flush-slot.clauses 𝓤 H A mem run) κs a flush_slot_sees
+    FlushSlotOneOutcome = Decided 𝓤 flush-slot.ended (flush-slot.clauses 𝓛 mem run) κs a flush_slot_sees
 
   -- truncate_slot: what its end shows, and what it comes to.
   module _ (κs : Lfts 4) (a : Args truncate-slot.signature κs) where
@@ -124,11 +123,11 @@ module _ {M : Type 1} (𝓤 : Ura M) (H : Heap 𝓤) (A : Atoms 𝓤) (mem : Mem
         (dev a.0.now a.1.0.now a.1.1.1.1.0.now)
 
     abbrev pub TruncateSlotIsTotal : Type 2
-    TruncateSlotIsTotal = (truncate-slot.clauses 𝓤 H A mem run κs a).requires tt ≡ ⊤ₛ
+    TruncateSlotIsTotal = (truncate-slot.clauses 𝓛 mem run κs a).requires tt ≡ ⊤ₛ
 
     abbrev pub TruncateSlotIsCall : Type 2
     TruncateSlotIsCall = (r : Res truncate-slot.signature κs) (z : AtExit truncate-slot.ended κs)
-        → (truncate-slot.clauses 𝓤 H A mem run κs a).ensures tt r z ≡ ⌜ truncate_slot_sees r z ≡ truncate_slot_call ⌝
+        → (truncate-slot.clauses 𝓛 mem run κs a).ensures tt r z ≡ ⌜ truncate_slot_sees r z ≡ truncate_slot_call ⌝
 
     abbrev pub TruncateSlotOneOutcome : Type 1
-    TruncateSlotOneOutcome = Decided 𝓤 truncate-slot.ended (truncate-slot.clauses 𝓤 H A mem run) κs a truncate_slot_sees
+    TruncateSlotOneOutcome = Decided 𝓤 truncate-slot.ended (truncate-slot.clauses 𝓛 mem run) κs a truncate_slot_sees

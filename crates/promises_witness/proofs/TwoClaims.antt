@@ -12,7 +12,7 @@ use Rattle.header.specs.Block as B
 use Rattle.text.specs.Text as T
 use Rattle.path.specs.Path.{same_path}
 use Rattle.path.specs.Path as P
-use Rattle.path.specs.Theorems.{same_path_refl}
+use Rattle.path.proofs.Theorems.{same_path_refl}
 use Rattle.lists.specs.Same as L
 use Rattle.device.specs.Device.{Dev, dev, Shape}
 use Rattle.device.specs.Device as D

@@ -7,7 +7,7 @@ use mathlib.Core.List.{List, [], ◌∷◌, map}
 use Rattle.lists.specs.Order.{byte_order, byte_orders}
 use Rattle.lists.specs.Sort.{Strict, insert, sort, all_sort, by_strict}
 use Rattle.path.specs.Path.{normal, path_order}
-use Rattle.path.specs.Theorems.{order_ranks}
+use Rattle.path.proofs.Theorems.{order_ranks}
 use Rattle.row_order.specs.Spans.{spelled, SpanInside, AllInside, span_before, path_before, in_order}
 use Rattle.row_order.specs.Risen.{Levels, by_levels}
 

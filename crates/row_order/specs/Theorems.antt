@@ -6,7 +6,7 @@ use Rattle.lists.specs.Runs.{range}
 use Rattle.lists.specs.Sort.{keep, sort, by, Strict, OneWay, by_strict, by_total, apart_range}
 use Rattle.lists.specs.Sorted.{Ordered, ordered_sort, count_sort}
 use Rattle.path.specs.Path.{components, path_order}
-use Rattle.path.specs.Theorems.{same_path_lem, order_ranks, order_equal}
+use Rattle.path.proofs.Theorems.{same_path_lem, order_ranks, order_equal}
 use Rattle.slot_rows.specs.Rows.{rows_of, Flat}
 use Rattle.dir_rows.specs.Rows.{dirs_of}
 use Rattle.row_order.specs.Spans.{path_before, in_order, span_before, file_span, dir_span, file_before, dir_before}

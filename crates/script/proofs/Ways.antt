@@ -2,7 +2,7 @@
 use Prim.Native.Nat.{ℕ, zero, suc, ◌+◌, ◌-◌, ◌*◌, ◌<◌, ◌≤◌}
 use mathlib.Core.Path.{◌≡◌, refl, sym, ap, ap₂, subst, ◌∙◌}
 use mathlib.Core.Bool.{Bool, true, false, cond}
-use mathlib.Core.List.{List, [], ◌∷◌, ◌++◌, append_assoc}
+use mathlib.Core.List.{List, [], ◌∷◌, ◌++◌}
 use native.Mathlib.Omega.{arith}
 use borrow.Author.Tests.{eq-eqb, ne_eqb}
 use lib.ListN.{length, take, drop}
@@ -22,10 +22,10 @@ use Rattle.script_format.specs.declared.Op.{Op}
 use Rattle.script_format.specs.declared.Setup.{Setup}
 use Rattle.script_format.specs.declared.Span.{Span}
 use Rattle.script_format.specs.Format.{no_span, run_in, op_at, operations, setup_at, length_at, Patching, patching, patch_at, patched_m}
-use Rattle.script_format.specs.Reading.{patch_end, Held, Sound, op_sound}
+use Rattle.script_format.specs.Reading.{patch_end, Sound, op_sound}
 use Rattle.script_tables.specs.Tables.{record_shown, device_shown}
-use Rattle.script_step.specs.Operate.{Said, said, op_m, Reached, reached, spoken}
-use Rattle.script.specs.Script.{followed, run_m, whole, closed, geometry_of, start_place, zeros, patched_device, start_m, ran_m, behind_setup, script_m}
+use Rattle.script_step.specs.Operate.{Said, op_m, Reached, reached, spoken}
+use Rattle.script.specs.Script.{run_m, whole, closed, geometry_of, start_place, zeros, patched_device, start_m, ran_m, behind_setup, script_m}
 
 -- ---- operations that are read one by one
 

@@ -1,5 +1,5 @@
 -- A script, run over a small pool of its own: docs/EXPORTS.md, "pool_script". What it puts out is one list, and nothing where its setup isn't whole.
-use Rattle.std.specs.Prelude.{ℕ, ◌*◌, Bool, cond, List, [], ◌∷◌, ◌++◌, length, replicate}
+use Rattle.std.specs.Prelude.{ℕ, ◌*◌, cond, List, [], ◌∷◌, ◌++◌, length, replicate}
 use Rattle.limits.specs.Limits.{max_path, row_width, dir_width}
 use Rattle.lists.specs.Runs.{tab}
 use Rattle.device.specs.declared.Geometry.{Geometry}

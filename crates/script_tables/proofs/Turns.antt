@@ -1,13 +1,12 @@
 -- The turns of the loops that write, and how far each goes.
-use Prim.Native.Nat.{ℕ, zero, suc, ◌+◌, ◌-◌, ◌*◌, ◌/◌, ◌%◌, ◌<◌, ◌≤◌}
-use mathlib.Core.Path.{◌≡◌, refl, sym, ap, ◌∙◌}
-use mathlib.Core.Bool.{Bool, true, false, cond, false≢true}
-use mathlib.Core.List.{List, [], ◌∷◌, ◌++◌, append-nil}
+use Prim.Native.Nat.{ℕ, ◌+◌, ◌-◌, ◌*◌, ◌/◌, ◌%◌, ◌<◌, ◌≤◌}
+use mathlib.Core.Path.{◌≡◌, sym, ap, ◌∙◌}
+use mathlib.Core.Bool.{Bool, true, false}
+use mathlib.Core.List.{List, [], ◌++◌, append-nil}
 use native.Mathlib.Omega.{arith}
 use native.Mathlib.Numerals.{add-one}
 use native.Mathlib.Nat.{add-sub_cancel_left}
 use borrow.Author.Tests.{eq-eqb, ne_eqb}
-use lib.Dec.{eqb}
 use lib.ListN.{length, get_or, take, drop, length-append, length-take, drop_of_length-le}
 use lib.Seq.{drop-cons, sets, sets-eq}
 use Rattle.limits.specs.Limits.{dir_width}
@@ -15,7 +14,7 @@ use Rattle.lists.specs.Blocks.{cat}
 use Rattle.lists.specs.Runs.{range, range_more, range_end}
 use Rattle.le.specs.Le.{le}
 use Rattle.le.proofs.Fields.{length_le}
-use Rattle.slot_rows.specs.Rows.{Row, at, is_bound, path_of, gen_of, len_of, is_dirty, rows_of}
+use Rattle.slot_rows.specs.Rows.{Row, at, path_of, gen_of, len_of, rows_of}
 use Rattle.slot_rows.proofs.InBuffers.{length_rows}
 use Rattle.dir_rows.specs.Rows.{dirs_of}
 use Rattle.dir_rows.proofs.InBuffer.{length_dirs, dirs_long}
@@ -23,8 +22,8 @@ use Rattle.pool_state.specs.State.{Bufs, queue_of, view, pool_of, flat, IsPool}
 use Rattle.pool_state.specs.InBuffers.{queue_fits, pool_dirs}
 use Rattle.pool_test.specs.Test.{is_pool}
 use Rattle.row_order.specs.Spans.{spelled}
-use Rattle.output.specs.Writer.{Shown, shown, pours, run_of}
-use Rattle.output.proofs.InParts.{pours_none, pours_append, after_pours}
+use Rattle.output.specs.Writer.{Shown, pours, run_of}
+use Rattle.output.proofs.InParts.{pours_none, pours_append}
 use Rattle.script_tables.specs.Tables.{is_in, weight, marks_of, marks_at, row_shown, dirs_shown, pool_shown, record_shown}
 
 -- ---- a byte that is sought

@@ -7,7 +7,7 @@ use native.Mathlib.Nat.{zero-add, add-sub_cancel_left}
 use native.Mathlib.Omega.{arith}
 use borrow.Author.Tests.{lt-ltb, le-ltb, eq-eqb, ne_eqb, ltb-false}
 use lib.ListN.{length, take, drop, get_or, replicate, length-append, length-take, length-drop}
-use lib.Seq.{take_all}
+use lib.Seq.{take_all, take-length}
 use lib.Dec.{ltb, eqb}
 use Rattle.lists.specs.declared.Found.{Found}
 use Rattle.lists.specs.declared.Found.TheVariants.{At, Nothing}
@@ -18,7 +18,6 @@ use Rattle.harness.specs.Calls.{Outcome, outcome, encode_call, same_call}
 use Rattle.served.specs.Requests.{Export, most_lent, plain_in, lent_in, two_in, encode_of, same_of, export_of}
 use Rattle.served.specs.Requests.{answer_for, answer_to, fitting, fronted, answered, frame, framed}
 use Rattle.served.specs.Answers.{Bounded, export_bounded, length_answer, answers_short}
-use Rattle.harness.proofs.Ways.{copied}
 
 -- ---- what is lent
 
@@ -216,7 +215,7 @@ module _ (request out : List ℕ) where
       let f : outcome n ys ≡ fronted s part = e ∙ ap (λ (k : ℕ). fronted (fitting k (answer_to request)) part) room in
       let m : n ≡ length s = ap (λ (c : Outcome). c.answer) f in
       let back : take 4 out ++ (ys ++ drop (length out - 4) (drop 4 out)) ≡ laid out 4 s =
-      copy_back 4 (length out - 4) out s (omega arith) (ap (λ (c : Outcome). c.out) f ∙ sym (copied s part)) in
+      copy_back 4 (length out - 4) out s (omega arith) (rw take-length (ap (λ (c : Outcome). c.out) f ∙ laid_front part s)) in
       let t : o ≡ laid out 0 (le 4 n ++ s) = i ∙ ap (λ (d : List ℕ). laid d 0 (le 4 n)) back ∙ laid_before out (le 4 n) s 0 h in
       let q : 4 + n ≡ length (le 4 (length s) ++ s) = ap (λ (k : ℕ). 4 + k) m ∙ sym (length-append (le 4 (length s)) s) in
       ap₂ outcome q (t ∙ ap (λ (k : ℕ). laid out 0 (le 4 k ++ s)) m) ∙ rw (le-ltb (length out) 4 h)

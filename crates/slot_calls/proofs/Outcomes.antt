@@ -1,10 +1,10 @@
 -- The statements of specs/SlotOutcomes.antt: what a refusal leaves, what was written is read, and what was synced is decoded.
-use Prim.Native.Nat.{ℕ, ◌+◌, ◌-◌, ◌*◌, ◌/◌, ◌^◌, ◌≤◌, ◌<◌}
+use Prim.Native.Nat.{ℕ, ◌+◌, ◌≤◌, ◌<◌}
 use native.Mathlib.Omega.{arith}
 use mathlib.Core.Path.{◌≡◌, refl, sym, ap, ◌∙◌}
 use mathlib.Core.Logic.{◌⊎◌, inl, inr}
 use mathlib.Core.Bool.{Bool, true, false, cond, ◌||◌, false≢true}
-use mathlib.Core.List.{List, [], ◌++◌}
+use mathlib.Core.List.{List, []}
 use borrow.Author.Tests.{eq-eqb, eqb-true}
 use lib.Dec.{eqb, ltb}
 use lib.ListN.{length, take}
@@ -15,7 +15,7 @@ use Rattle.header.specs.RoundTrip.{Fits}
 use Rattle.header.proofs.BlockLaws.{length_encoded}
 use Rattle.header.proofs.RoundTrip.{decode_encode, encoded_path}
 use Rattle.device.specs.declared.Geometry.{Geometry}
-use Rattle.device.specs.Device.{Dev, dev, Shape, Read, read, turn, onward, noted, share, stops, short, stores}
+use Rattle.device.specs.Device.{Dev, Shape, Read, read, turn, onward, noted, share, stops, short, stores}
 use Rattle.device.specs.Device.{given, seen, read_m}
 use Rattle.device.specs.Device.{stored, write_m, cut, truncate_m, flushed, flush_m, header_read_m, header_write_m}
 use Rattle.device.specs.Device.{shape_b, data_read_m, data_write_m, data_truncate_m}

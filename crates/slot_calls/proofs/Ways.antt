@@ -5,13 +5,13 @@ use mathlib.Core.Bool.{Bool, true, false, cond, not}
 use mathlib.Core.List.{List, []}
 use native.Mathlib.Omega.{arith}
 use borrow.Author.Tests.{eq-eqb, ne_eqb, lt-ltb, le-ltb, le-leb, lt-leb, ltb-false, leb-false}
-use lib.Dec.{eqb, leb, ltb}
+use lib.Dec.{leb, ltb}
 use lib.ListN.{length}
 use Rattle.text.specs.Text.{is_text}
 use Rattle.header.specs.Block.{max_path}
 use Rattle.device.specs.declared.Geometry.{Geometry}
 use Rattle.device.specs.declared.Got.{Got}
-use Rattle.device.specs.Device.{Dev, dev, Shape, shape_b, Read, read, data_read_m}
+use Rattle.device.specs.Device.{Dev, dev, Shape, shape_b, read, data_read_m}
 use Rattle.device.proofs.Shapes.{shape_means}
 use Rattle.slot_calls.specs.SlotCalls.{SlotDone, slot_done, slot_read, done_by, read_by, slot_refusal, unless_refused, read_slot_m}
 

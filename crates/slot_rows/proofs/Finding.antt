@@ -9,7 +9,7 @@ use lib.ListN.{length, set, length-set}
 use lib.Seq.{get_or-set_same, get_or-set_other}
 use native.Mathlib.Decide.{ℕ_discrete}
 use Rattle.path.specs.Path.{same_path}
-use Rattle.path.specs.Theorems.{same_path_lem, same_path_of}
+use Rattle.path.proofs.Theorems.{same_path_lem, same_path_of}
 use Rattle.slot_rows.specs.Rows.{Row, unbound, bound, none, at, is_bound, path_of, resized, holds, find}
 
 -- a row that holds a path is bound

@@ -8,3 +8,5 @@ pub mod Search
 pub mod Finding
 -- Rows and their buffers: the view of a flat form, what a store to one row does, what stands in a row's place, and more rows.
 pub mod InBuffers
+-- Examples of rows and of their flat form (01, A pool): 97 is `a`, 98 is `b`, 46 is `.` and 47 is `/`.
+pub mod Examples

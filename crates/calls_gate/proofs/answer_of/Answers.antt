@@ -1,5 +1,6 @@
 -- Case by case; `none_before` is the last.
 use mathlib.Core.Path.{sym, ap}
+use native.Mathlib.Omega.{arith}
 use Rattle.calls_gate.specs.Answers.{answer_of}
 use Rattle.calls_gate.proofs.Tests.{none_before}
 use Rattle.calls_gate.proofs.answer_of.Goals as goal
@@ -71,5 +72,4 @@ returns-in-12 c =
 
 pub returns-in_default : goal.returns-in_default
 returns-in_default c =
-    let r = c.in_default.in_default-own.rest in
-    none_before _ r.0.0.0.0.0.0.0.0.0.0.0.0.1 r.0.0.0.0.0.0.0.0.0.0.0.1 r.0.0.0.0.0.0.0.0.0.0.1 r.0.0.0.0.0.0.0.0.0.1 r.0.0.0.0.0.0.0.0.1 r.0.0.0.0.0.0.0.1 r.0.0.0.0.0.0.1 r.0.0.0.0.0.1 r.0.0.0.0.1 r.0.0.0.1 r.0.0.1 r.0.1 r.1
+    none_before _ (omega arith) (omega arith) (omega arith) (omega arith) (omega arith) (omega arith) (omega arith) (omega arith) (omega arith) (omega arith) (omega arith) (omega arith) (omega arith)

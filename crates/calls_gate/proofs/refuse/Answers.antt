@@ -7,10 +7,13 @@ use Rattle.calls_gate.proofs.refuse.Goals as goal
 
 pub returns-then-takes : goal.returns-then-takes
 returns-then-takes c =
-    let z = zeroed c.args.dirs.now _ _ _ refl refl c.zero_in.ensures in record { told = silent_is _ _ _ _ _ c.silent.ensures c.answer_of-answer.ensures; left = refuses_mount _ _ c.takes_of-takes.ensures
+    let z = zeroed c.args.dirs.now _ _ _ refl refl c.zero_in.ensures in record {
+      told = silent_is _ _ _ _ _ c.silent.ensures c.answer_of-answer.ensures;
+      left = refuses_mount _ _ c.takes_of-takes.ensures
           (bufs c.args.pool c.args.nums.now c.args.names.now c.args.dirs.now) _ _ _ _
           c.silent.ensures _ _ _ c.if-takes.true c.zero-zero.ensures
-          c.clear_rows.ensures.nums c.clear_rows.ensures.names z }
+          c.clear_rows.ensures.nums c.clear_rows.ensures.names z;
+    }
 
 pub returns-clause-told : goal.returns-clause-told
 returns-clause-told c =
@@ -19,5 +22,5 @@ returns-clause-told c =
 pub returns-clause-left : goal.returns-clause-left
 returns-clause-left c =
     refuses_other _ _ c.takes_of-takes.ensures
-          (bufs c.args.pool c.args.nums.now c.args.names.now c.args.dirs.now) _ _ _ _
-          c.silent-2.ensures c.if-takes.false refl
+    (bufs c.args.pool c.args.nums.now c.args.names.now c.args.dirs.now) _ _ _ _
+    c.silent-2.ensures c.if-takes.false refl

@@ -8,13 +8,6 @@ use Rattle.path.specs.Walk.{UpOf}
 use Rattle.harness.proofs.Ways.{told, parent_no_text, parent_none, parent_text}
 use Rattle.harness.proofs.path_parent.Goals as goal
 
-is-text : (c : goal.Else-not-is_text) → not (is_text c.args.path.now) ≡ false
-is-text c = told c.is_text.ensures c.if-not-is_text.false
-
--- what the search for the parent's end came upon
-up : (c : tie.After-parent-end) (x : Found) → c.parent-end.result ≡ x → UpOf c.before.before.before.before.before.args.path.now x
-up c x e = subst (λ (y : Found). UpOf c.before.before.before.before.before.args.path.now y) e c.parent-end.ensures
-
 pub returns-then-not-is_text : goal.returns-then-not-is_text
 returns-then-not-is_text c =
     let a = c.args in
@@ -23,13 +16,13 @@ returns-then-not-is_text c =
 pub returns-in_default : goal.returns-in_default
 returns-in_default c =
     let a = c.args in
-    parent_none a.path.now a.out.now (is-text «Else1») c.refusal-in_default.ensures (up «After-parent_end» _ c.enum_told-1.given.1)
+    parent_none a.path.now a.out.now (told c.is_text.ensures c.if-not-is_text.false) c.refusal-in_default.ensures c.in_default.ensures
 
 pub slice_bounds-spell-end : goal.slice_bounds-spell-end
 slice_bounds-spell-end c =
-    sym (length-take-le _ _ (up «Else1» _ c.e-1.given.1).inside)
+    sym (length-take-le _ _ c.in-At.ensures.inside)
 
 pub returns : goal.returns
 returns c =
     let a = c.args in
-    c.spell.ensures ∙ parent_text a.path.now a.out.now (is-text «After-is_text») _ (up «Else1» _ c.e-1.given.1)
+    c.spell.ensures ∙ parent_text a.path.now a.out.now (told c.is_text.ensures c.if-not-is_text.false) _ c.in-At.ensures

@@ -5,12 +5,6 @@ use Rattle.text.specs.Text.{is_text}
 use Rattle.harness.proofs.Ways.{told, same_no_text, same_no_text_2, same_said}
 use Rattle.harness.proofs.path_same.Goals as goal
 
-is-text : (c : goal.Else-not-is_text) → not (is_text c.args.a.now) ≡ false
-is-text c = told c.is_text.ensures c.if-not-is_text.false
-
-is-text-2 : (c : goal.Else-not-is_text-2) → not (is_text c.args.b.now) ≡ false
-is-text-2 c = told c.is_text-2.ensures c.if-not-is_text-2.false
-
 pub returns-then-not-is_text : goal.returns-then-not-is_text
 returns-then-not-is_text c =
     let a = c.args in same_no_text a.a.now a.b.now (told c.is_text.ensures c.if-not-is_text.true)
@@ -18,14 +12,14 @@ returns-then-not-is_text c =
 pub returns-then-not-is_text-2 : goal.returns-then-not-is_text-2
 returns-then-not-is_text-2 c =
     let a = c.args in
-    same_no_text_2 a.a.now a.b.now (is-text «Else1») (told c.is_text-2.ensures c.if-not-is_text-2.true)
+    same_no_text_2 a.a.now a.b.now (told c.is_text.ensures c.if-not-is_text.false) (told c.is_text-2.ensures c.if-not-is_text-2.true)
 
 pub returns-then-same_path : goal.returns-then-same_path
 returns-then-same_path c =
     let a = c.args in
-    same_said a.a.now a.b.now (is-text «Else1») (is-text-2 «Else2») true (sym c.same_path.ensures ∙ c.if-same_path.true)
+    same_said a.a.now a.b.now (told c.is_text.ensures c.if-not-is_text.false) (told c.is_text-2.ensures c.if-not-is_text-2.false) true (sym c.same_path.ensures ∙ c.if-same_path.true)
 
 pub returns : goal.returns
 returns c =
     let a = c.args in
-    same_said a.a.now a.b.now (is-text «Else1») (is-text-2 «Else2») false (sym c.same_path.ensures ∙ c.if-same_path.false)
+    same_said a.a.now a.b.now (told c.is_text.ensures c.if-not-is_text.false) (told c.is_text-2.ensures c.if-not-is_text-2.false) false (sym c.same_path.ensures ∙ c.if-same_path.false)

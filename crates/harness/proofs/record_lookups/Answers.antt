@@ -12,11 +12,11 @@ lookups-requires c =
 pub returns-then-pool_ok : goal.returns-then-pool_ok
 returns-then-pool_ok c =
     let a = c.args in
-    lookups_said a.nums.now a.names.now a.dirs.now a.rows a.dir_rows_lem a.held a.dirs-held a.counter c.counted-pool.result true
+    lookups_said a.nums.now a.names.now a.dirs.now a.rows a.dir_rows a.held a.dirs_held a.counter c.counted-pool.result true
     c.counted-pool.ensures (sym c.pool_ok.ensures ∙ c.if-pool_ok.true) a.path.now a.times c.lookups.ensures
 
 pub returns : goal.returns
 returns c =
     let a = c.args in
-    lookups_said a.nums.now a.names.now a.dirs.now a.rows a.dir_rows_lem a.held a.dirs-held a.counter c.counted-pool.result false
+    lookups_said a.nums.now a.names.now a.dirs.now a.rows a.dir_rows a.held a.dirs_held a.counter c.counted-pool.result false
     c.counted-pool.ensures (sym c.pool_ok.ensures ∙ c.if-pool_ok.false) a.path.now a.times refl

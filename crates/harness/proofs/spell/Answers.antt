@@ -12,4 +12,4 @@ pub returns : goal.returns
 returns c =
     let a = c.args in
     spelled_done (normal a.path.now) a.out.now c.normal_len.ensures c.if-out-normal_len.false
-    c.normalize.ensures
+    c.normalize.ensures.laid c.normalize.ensures.long

@@ -16,10 +16,9 @@ missing_path-missing-requires c =
 pub overflow_sub-cap : goal.overflow_sub-cap
 overflow_sub-cap c =
     omega (
-  arith,
-  ((pool_dirs _ c.requires).few),
-
-)
+      arith,
+      ((pool_dirs _ c.requires).few),
+    )
 
 pub returns-then-cap-m : goal.returns-then-cap-m
 returns-then-cap-m c =

@@ -51,10 +51,9 @@ overflow_add-i c =
 pub loop-i-smaller : goal.loop-i-smaller
 loop-i-smaller c =
     omega (
-  arith,
-  (c.loop-i-test.true),
-
-)
+      arith,
+      (c.loop-i-test.true),
+    )
 
 pub loop-i-preserved : goal.loop-i-preserved
 loop-i-preserved c =

@@ -13,12 +13,11 @@ returns-then-not-go c =
     rename_stopped _ _ c.requires _ _ _ _ c.front-f.ensures (c.if-not-go.true)
 
 pub row_len-len-requires : goal.row_len-len-requires
-row_len-len-requires c =
-    (
-      pool_rows _ c.requires.pool,
-      from_held _ _ c.requires c.args.plan.now _ _ _ c.front-f.ensures
-          (c.if-not-go.false),
-    )
+row_len-len-requires c = (
+  pool_rows _ c.requires.pool,
+  from_held _ _ c.requires c.args.plan.now _ _ _ c.front-f.ensures
+      (c.if-not-go.false),
+)
 
 pub rebind-moved-requires : goal.rebind-moved-requires
 rebind-moved-requires c =

@@ -1,6 +1,6 @@
 -- The invariant: what is counted and what is left to join are the whole. `len_turn` counts one component.
 use Rattle.std.proofs.Common.{arith}
-use Rattle.path.specs.Theorems.{normal_short}
+use Rattle.path.proofs.Theorems.{normal_short}
 use Rattle.path.proofs.Writes.{len_start, len_done, len_turn}
 use Rattle.path.proofs.normal_len.Goals as goal
 

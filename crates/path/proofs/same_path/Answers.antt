@@ -1,6 +1,6 @@
 -- Equal bytes are equal paths; else the walk answers.
 use Rattle.std.proofs.Common.{sym, ◌∙◌}
-use Rattle.path.specs.Theorems.{bytes_same_path}
+use Rattle.path.proofs.Theorems.{bytes_same_path}
 use Rattle.path.proofs.same_path.Goals as goal
 
 pub returns-then-same_bytes : goal.returns-then-same_bytes

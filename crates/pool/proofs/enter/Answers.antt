@@ -1,5 +1,5 @@
 -- `many_rows_are` and `few_rows` say what the two ways out come to.
-use Rattle.std.proofs.Common.{rules, ◌≡◌, ◌*◌, ℕ, List, length, arith, sym}
+use Rattle.std.proofs.Common.{rules, ℕ, List, length}
 use Rattle.device.specs.Device.{dev}
 use Rattle.pool_state.specs.State.{bufs}
 use Rattle.pool_steps.specs.World.{lent}

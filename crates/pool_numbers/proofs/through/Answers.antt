@@ -1,5 +1,5 @@
 -- `went_through` says what the call through records comes to.
-use Rattle.std.proofs.Common.{rules, ◌≤◌, ◌/◌, length, arith}
+use Rattle.std.proofs.Common.{rules, ◌≤◌, ◌/◌, length}
 use Rattle.limits.specs.Limits.{row_width}
 use Rattle.device.specs.Device.{dev}
 use Rattle.slot_records.specs.Whole.{whole_rows_lem}

@@ -1,4 +1,5 @@
 -- One law for each way out: `device_none`, `device_run`; the device's bytes and lengths are fronts of lent buffers.
+use borrow.Author.Tests.{not-true, not-false}
 use mathlib.Core.Path.{◌∙◌, ◌≡◌, ap, sym, subst, ap₂}
 use mathlib.Core.List.{List, ◌++◌}
 use Prim.Native.Nat.{ℕ, ◌*◌, ◌≤◌, ◌+◌}
@@ -10,13 +11,6 @@ use Rattle.script_step.proofs.Ways.{fresh_front, fresh_length}
 use Rattle.script.specs.Script.{whole, ran_m}
 use Rattle.script.proofs.Ways.{device_none, device_run, starts_inside, front_back}
 use native.Mathlib.Omega.{arith}
-use Rattle.script.proofs.on_device.Reads as reads
-use Rattle.script.proofs.on_device.Lts as lts
-use Rattle.script_format.proofs.lengths.Reads as lengths-reads
-use Rattle.script_format.proofs.patch.Reads as patch-reads
-use Rattle.script.proofs.no_bytes.Reads as no-bytes-reads
-use Rattle.script.proofs.no_lengths.Reads as no-lengths-reads
-use Rattle.script.proofs.on_rows.Reads as on-rows-reads
 use Rattle.script.proofs.on_device.Goals as goal
 
 pub slice_bounds-patch-end : goal.slice_bounds-patch-end
@@ -28,7 +22,7 @@ pub returns-then-not-run : goal.returns-then-not-run
 returns-then-not-run c =
     device_none c.args.script.now c.args.setup _ _ _ c.patch-run.ensures
     (fresh_front (c.args.setup.slots * c.args.setup.size) 65536 0 c.no_bytes-bytes.result
-    c.no_bytes-bytes.ensures c.requires.bytes) _ (c.if-not-run.true)
+    c.no_bytes-bytes.ensures c.requires.bytes) _ (not-true _ c.if-not-run.true)
 
 pub slice_bounds-lengths-end : goal.slice_bounds-lengths-end
 slice_bounds-lengths-end c =
@@ -77,14 +71,13 @@ slice_bounds-on_rows-end-2 c =
     sym (ap length (front_back k b c.no_lengths-phys.result n) ∙ n)
 
 pub on_rows-requires : goal.on_rows-requires
-on_rows-requires c =
-    (
-      c.requires,
-      starts_inside c.args.script.now c.args.setup _ _ _
-          c.patch-run.ensures
-          (fresh_front (c.args.setup.slots * c.args.setup.size) 65536 0 c.no_bytes-bytes.result
-          c.no_bytes-bytes.ensures c.requires.bytes) c.requires.patches,
-    )
+on_rows-requires c = (
+  c.requires,
+  starts_inside c.args.script.now c.args.setup _ _ _
+      c.patch-run.ensures
+      (fresh_front (c.args.setup.slots * c.args.setup.size) 65536 0 c.no_bytes-bytes.result
+      c.no_bytes-bytes.ensures c.requires.bytes) c.requires.patches,
+)
 
 pub returns : goal.returns
 returns c =
@@ -110,4 +103,4 @@ returns c =
     ∙ ap (λ (x : List ℕ). pours x o)
     (device_run s u _ b _ c.patch-run.ensures
     (fresh_front k 65536 0 c.no_bytes-bytes.result c.no_bytes-bytes.ensures c.requires.bytes) h _
-    c.lengths.ensures m (c.if-not-run.false))
+    c.lengths.ensures m (not-false _ c.if-not-run.false))

@@ -9,13 +9,6 @@ use Rattle.script_step.proofs.Ways.{fresh_front, fresh_length}
 use Rattle.script.specs.Script.{closed}
 use Rattle.script.proofs.Ways.{closed_parts, rows_are}
 use native.Mathlib.Omega.{arith}
-use Rattle.script.proofs.on_rows.Reads as reads
-use Rattle.script.proofs.on_rows.Lts as lts
-use Rattle.script.proofs.no_dirs.Reads as no-dirs-reads
-use Rattle.script.proofs.no_names.Reads as no-names-reads
-use Rattle.script.proofs.no_nums.Reads as no-nums-reads
-use Rattle.mount.proofs.zero.Reads as zero-reads
-use Rattle.script.proofs.run_all.Reads as run-all-reads
 use Rattle.script.proofs.on_rows.Goals as goal
 
 pub slice_bounds-run_all-end-2 : goal.slice_bounds-run_all-end-2
@@ -44,5 +37,5 @@ returns c =
     (fresh_front (u.rows * max_path) 31680 0 c.no_names-names.result c.no_names-names.ensures
     (omega (arith, c.requires.0.rows)))
     (fresh_front (u.dir_rows * dir_width) 124356 0 c.no_dirs-dirs.result c.no_dirs-dirs.ensures
-    (omega (arith, c.requires.0.dir_rows_lem))))) in let all = (p.0, (p.1, p.2)) in
-    record { output = all.0; bytes = all.1.0; phys = all.1.1 }
+    (omega (arith, c.requires.0.dir_rows_lem))))) in
+    record { output = p.0; bytes = p.1; phys = p.2 }

@@ -1,12 +1,7 @@
 -- Carried by the record `Going`: running the operations that are left gives the whole run.
 use mathlib.Core.Path.{◌∙◌, refl}
-use Prim.Native.Nat.{◌-◌}
 use Rattle.script.proofs.Ways.{sound_of, going_start, going_end, going_on}
 use native.Mathlib.Omega.{arith}
-use Rattle.script.proofs.run.Reads as reads
-use Rattle.script.proofs.run.Lts as lts
-use Rattle.script_step.proofs.step.Reads as step-reads
-use Rattle.script_format.proofs.op_at.Reads as op-at-reads
 use Rattle.script.proofs.run.Goals as goal
 
 pub loop-geometry-init : goal.loop-geometry-init
@@ -52,14 +47,14 @@ returns-then-code-eq0-clause-few c =
 pub step-ran-requires : goal.step-ran-requires
 step-ran-requires c =
     let S = sound_of c.args.script.now c.loop-geometry.pos _
-    (λ j. omega (arith, c.shared_slice_known-2-1.given j)) c.op_at-op.ensures
+    (λ j. omega (arith, c.type_inv.script j)) c.op_at-op.ensures
     c.if-code-eq0.false in
     (S.held, S.code, S.small, omega (arith, c.loop-geometry.invariant.6.few, c.loop-geometry.invariant.6.inside, c.requires.1))
 
 pub loop-geometry-smaller : goal.loop-geometry-smaller
 loop-geometry-smaller c =
     let S = sound_of c.args.script.now c.loop-geometry.pos _
-    (λ j. omega (arith, c.shared_slice_known-2-1.given j)) c.op_at-op.ensures
+    (λ j. omega (arith, c.type_inv.script j)) c.op_at-op.ensures
     c.if-code-eq0.false in
     omega (arith, S.further, S.held.second_end)
 
@@ -67,13 +62,13 @@ pub loop-geometry-preserved : goal.loop-geometry-preserved
 loop-geometry-preserved c =
     let k = c.step-ran.auto in
     let i = c.loop-geometry.invariant in (
-      k.0 ∙ i.0,
-      k.1.0 ∙ i.1,
-      k.1.1.1.1.1.0 ∙ i.2,
-      k.1.1.1.1.1.1.0 ∙ i.3,
-      k.1.1.1.1.1.1.1.0 ∙ i.4,
-      k.1.1.1.1.1.1.1.1.1.1.1.0 ∙ i.5,
+      k.bytes ∙ i.0,
+      k.phys ∙ i.1,
+      k.nums ∙ i.2,
+      k.names ∙ i.3,
+      k.dirs ∙ i.4,
+      k.out ∙ i.5,
       going_on _ _ _ _ _ _ _ _ _ i.6 _ c.op_at-op.ensures _ _
-          (λ j. omega (arith, c.shared_slice_known-2-1.given j)) c.if-code-eq0.false c.step-ran.ensures.op
+          (λ j. omega (arith, c.type_inv.script j)) c.if-code-eq0.false c.step-ran.ensures.op
           c.step-ran.ensures.few,
     )

@@ -7,10 +7,6 @@ use Rattle.pool_state.specs.State.{bufs}
 use Rattle.pool_steps.specs.World.{lent}
 use Rattle.output.specs.Writer.{shown}
 use Rattle.script.proofs.Ways.{Going}
-use Rattle.script.proofs.run.Reads as reads
-use Rattle.script.proofs.run.Lts as lts
-use Rattle.script_step.proofs.step.Reads as step-reads
-use Rattle.script_format.proofs.op_at.Reads as op-at-reads
 use Rattle.script.proofs.run.Given as goal
 
 abbrev pub invariant-loop-geometry : goal.invariant-loop-geometry

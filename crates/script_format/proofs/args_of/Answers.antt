@@ -69,7 +69,7 @@ pub overflow_cast-result : goal.overflow_cast-result
 overflow_cast-result c =
     let m = small _ _ c.requires.1 in
     let h = subst (λ (x : ℕ). x < 256) (sym c.get_at-2.ensures) (field_lt c.args.s.now (c.args.i + c.args.f.slot)
-    c.args.f.flag 1 (λ j. omega (arith, c.shared_slice_known-1.given j)) m.flag) in
+    c.args.f.flag 1 (λ j. omega (arith, c.type_inv.s j)) m.flag) in
     omega (arith, h)
 
 pub get_at-requires-3 : goal.get_at-requires-3

@@ -10,7 +10,7 @@ returns-then-s-i c =
 
 pub overflow_cast-code : goal.overflow_cast-code
 overflow_cast-code c =
-    omega (arith, c.shared_slice_known-1.given c.args.i)
+    omega (arith, c.type_inv.s c.args.i)
 
 pub returns-then-code-gt-LAST_CODE : goal.returns-then-code-gt-LAST_CODE
 returns-then-code-gt-LAST_CODE c =

@@ -29,7 +29,7 @@ pub overflow_add-place : goal.overflow_add-place
 overflow_add-place c =
     let n : c.get_at-place.result < 4294967296 = subst (λ (k : ℕ). k < 4294967296) (sym c.get_at-place.ensures)
     (field_lt c.args.s.now c.args.i 4 4
-    (λ j. omega (arith, c.shared_slice_known-1.given j)) (omega arith)) in omega (arith, n, (in-script _ _ _ c.run_at-run.ensures).end)
+    (λ j. omega (arith, c.type_inv.s j)) (omega arith)) in omega (arith, n, (in-script _ _ _ c.run_at-run.ensures).end)
 
 pub returns-then-bytes-place : goal.returns-then-bytes-place
 returns-then-bytes-place c =

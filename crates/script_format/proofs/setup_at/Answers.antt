@@ -20,18 +20,18 @@ returns-then-s-ne1 c =
 
 pub overflow_cast-slots : goal.overflow_cast-slots
 overflow_cast-slots c =
-    omega (arith, c.shared_slice_known-1.given 1)
+    omega (arith, c.type_inv.s 1)
 
 pub overflow_cast-rows : goal.overflow_cast-rows
 overflow_cast-rows c =
-    omega (arith, c.shared_slice_known-1.given 2)
+    omega (arith, c.type_inv.s 2)
 
 pub limits_ok-requires : goal.limits_ok-requires
 limits_ok-requires c = (
-  omega (arith, c.shared_slice_known-1.given 1),
+  omega (arith, c.type_inv.s 1),
   subst (λ (k : ℕ). k < 4294967296) (sym c.get_at-size.ensures)
       (field_lt c.args.s.now 5 4 4
-      (λ j. omega (arith, c.shared_slice_known-1.given j)) (omega arith)),
+      (λ j. omega (arith, c.type_inv.s j)) (omega arith)),
 )
 
 pub returns-then-not-limits_ok : goal.returns-then-not-limits_ok
@@ -42,7 +42,7 @@ returns-then-not-limits_ok c =
 
 pub behind_plan-requires : goal.behind_plan-requires
 behind_plan-requires c =
-    (c.if-n-lt9.false, omega (arith, c.shared_slice_known-1.given 1))
+    (c.if-n-lt9.false, omega (arith, c.type_inv.s 1))
 
 pub returns : goal.returns
 returns c =

@@ -7,10 +7,10 @@ use Rattle.script_step.proofs.answered.Goals as goal
 
 pub put_answer-to-requires : goal.put_answer-to-requires
 put_answer-to-requires c =
-    let same = sym c.make-came.kept.1.1.1.1.1.1.1.1.1.1.1.0 in
+    let same = sym c.make-came.auto.buf in
     (c.requires.1, subst (λ (k : ℕ). k < 65536) same c.requires.2, c.requires.3)
 
 pub returns : goal.returns
 returns c =
-    let put = (c.put_answer-to.ensures.answer, c.put_answer-to.ensures.few) in
-    let out = shown c.args.out.now c.args.at in record { op = answered_is _ _ _ c.args.op _ _ c.args.buf.now out _ c.make-came.ensures put.0; few = put.1 }
+    let out = shown c.args.out.now c.args.at in
+    record { op = answered_is _ _ _ c.args.op _ _ c.args.buf.now out _ c.make-came.ensures c.put_answer-to.ensures.answer; few = c.put_answer-to.ensures.few }

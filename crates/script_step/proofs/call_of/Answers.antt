@@ -2,10 +2,6 @@
 use mathlib.Core.Path.{ap, ◌∙◌}
 use Rattle.calls_gate.specs.declared.Call.TheVariants.{OpenWrite}
 use Rattle.script_step.proofs.Ways.{is_mount, is_adopt, is_open_write, is_open_read, is_on_handle, is_on_path}
-use Rattle.script_step.proofs.call_of.Reads as reads
-use Rattle.script_step.proofs.call_of.Lts as lts
-use Rattle.script_step.proofs.on_handle.Reads as on-handle-reads
-use Rattle.script_step.proofs.on_path.Reads as on-path-reads
 use Rattle.script_step.proofs.call_of.Goals as goal
 
 pub returns-then-code-eq1 : goal.returns-then-code-eq1

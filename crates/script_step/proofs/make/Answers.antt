@@ -8,4 +8,4 @@ returns-then-code-ge22 c =
 
 pub returns : goal.returns
 returns c =
-    made_on_pool _ _ _ c.args.op _ _ _ _ c.if-code-ge22.left c.number.ensures c.ask-reply.ensures
+    made_on_pool _ _ _ c.args.op _ _ _ _ c.if-code-ge22.false c.number.ensures c.ask-reply.ensures

@@ -1,7 +1,5 @@
 -- Each way out by what its tests say.
 use Rattle.script_step.proofs.Ways.{is_read, is_write, is_set_len, is_file_len, is_sync}
-use Rattle.script_step.proofs.on_handle.Reads as reads
-use Rattle.script_step.proofs.on_handle.Lts as lts
 use Rattle.script_step.proofs.on_handle.Goals as goal
 
 pub returns-then-code-eq5 : goal.returns-then-code-eq5

@@ -3,8 +3,6 @@ use mathlib.Core.Path.{sym, ap}
 use borrow.Author.Rules.{rules}
 use Rattle.script_step.specs.Operate.{on_path}
 use Rattle.script_step.proofs.Ways.{is_metadata}
-use Rattle.script_step.proofs.on_path.Reads as reads
-use Rattle.script_step.proofs.on_path.Lts as lts
 use Rattle.script_step.proofs.on_path.Goals as goal
 
 pub returns-in-10 : goal.returns-in-10

@@ -1,17 +1,13 @@
 -- Carried by `pours_then`: what is put out number by number is the whole answer. `near` keeps the place small.
 use mathlib.Core.Path.{◌∙◌, ap}
 use mathlib.Core.List.{List}
-use Prim.Native.Nat.{ℕ, ◌+◌, ◌≤◌}
+use Prim.Native.Nat.{ℕ}
 use Rattle.le.specs.Le.{le}
 use Rattle.script_format.specs.Reading.{Small, small}
 use Rattle.output.specs.Writer.{shown, pours}
 use Rattle.output.proofs.InParts.{after_pours, pours_then}
 use Rattle.script_step.proofs.Ways.{answer_is, near}
 use native.Mathlib.Omega.{arith}
-use Rattle.script_step.proofs.bit.Reads as bit-reads
-use Rattle.script_format.proofs.form_of.Reads as form-of-reads
-use Rattle.output.proofs.put_bytes.Reads as put-bytes-reads
-use Rattle.output.proofs.put_le.Reads as put-le-reads
 use Rattle.script_step.proofs.put_answer.Goals as goal
 
 -- ---- what each call needs

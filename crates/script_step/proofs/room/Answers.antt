@@ -1,8 +1,5 @@
 -- Each way out by what its test says.
 use Rattle.script_step.proofs.Ways.{room_is, no_room}
-use Rattle.script_step.proofs.room.Reads as reads
-use Rattle.script_step.proofs.room.Lts as lts
-use Rattle.script_format.proofs.form_of.Reads as form-of-reads
 use Rattle.script_step.proofs.room.Goals as goal
 
 pub returns-then-f-eq2 : goal.returns-then-f-eq2

@@ -9,11 +9,6 @@ use Rattle.output.specs.Writer.{shown}
 use Rattle.script_step.specs.Operate.{room}
 use Rattle.script_step.proofs.Ways.{room_small, fresh_front, fresh_length, step_is}
 use native.Mathlib.Omega.{arith}
-use Rattle.script_step.proofs.step.Reads as reads
-use Rattle.script_step.proofs.step.Lts as lts
-use Rattle.script_step.proofs.answered.Reads as answered-reads
-use Rattle.script_step.proofs.fresh.Reads as fresh-reads
-use Rattle.script_step.proofs.room.Reads as room-reads
 use Rattle.script_step.proofs.step.Goals as goal
 
 -- the buffer is inside of its array

@@ -1,10 +1,7 @@
 -- A turn of the loop looks at one byte: `in_here`, `in_more`, and `in_none` at the end.
 use mathlib.Core.Path.{◌∙◌, sym, refl}
-use Prim.Native.Nat.{◌-◌}
 use Rattle.script_tables.proofs.Turns.{in_here, in_more, in_none}
 use native.Mathlib.Omega.{arith}
-use Rattle.script_tables.proofs.has.Reads as reads
-use Rattle.script_tables.proofs.has.Lts as lts
 use Rattle.script_tables.proofs.has.Goals as goal
 
 pub loop-i-init : goal.loop-i-init
@@ -13,19 +10,18 @@ loop-i-init c =
 
 pub overflow_cast-s : goal.overflow_cast-s
 overflow_cast-s c =
-    omega (arith, c.shared_slice_known-1.given c.loop-i.i)
+    omega (arith, c.type_inv.s c.loop-i.i)
 
 pub returns-then-s-i : goal.returns-then-s-i
 returns-then-s-i c =
     sym (in_here c.args.x c.args.s.now c.loop-i.i (omega arith) c.if-s-i.true) ∙ c.loop-i.invariant.1
 
 pub loop-i-preserved : goal.loop-i-preserved
-loop-i-preserved c =
-    (
-      omega arith,
-      in_more c.args.x c.args.s.now c.loop-i.i (omega arith)
-          c.if-s-i.false ∙ c.loop-i.invariant.1,
-    )
+loop-i-preserved c = (
+  omega arith,
+  in_more c.args.x c.args.s.now c.loop-i.i (omega arith)
+      c.if-s-i.false ∙ c.loop-i.invariant.1,
+)
 
 pub returns : goal.returns
 returns c =

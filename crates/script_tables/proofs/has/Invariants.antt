@@ -3,8 +3,6 @@ use mathlib.Core.Path.{◌≡◌}
 use Prim.Native.Nat.{◌≤◌, ◌-◌}
 use lib.ListN.{length, drop}
 use Rattle.script_tables.specs.Tables.{is_in}
-use Rattle.script_tables.proofs.has.Reads as reads
-use Rattle.script_tables.proofs.has.Lts as lts
 use Rattle.script_tables.proofs.has.Given as goal
 
 abbrev pub invariant-loop-i : goal.invariant-loop-i

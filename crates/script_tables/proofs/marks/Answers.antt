@@ -1,12 +1,6 @@
 -- Carried by `marks_are`: three bits, one for each test.
 use Rattle.script_tables.proofs.Turns.{weight_le, marks_are}
 use native.Mathlib.Omega.{arith}
-use Rattle.script_tables.proofs.marks.Reads as reads
-use Rattle.script_tables.proofs.marks.Lts as lts
-use Rattle.slot_rows.proofs.is_bound.Reads as is-bound-reads
-use Rattle.slot_rows.proofs.is_dirty.Reads as is-dirty-reads
-use Rattle.script_tables.proofs.has.Reads as has-reads
-use Rattle.script_tables.proofs.weigh.Reads as weigh-reads
 use Rattle.script_tables.proofs.marks.Goals as goal
 
 pub overflow_add-result : goal.overflow_add-result

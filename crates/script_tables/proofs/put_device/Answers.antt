@@ -6,31 +6,24 @@ use Rattle.le.proofs.Fields.{length_le}
 use Rattle.output.proofs.InParts.{after_pours, pours_then}
 use Rattle.script_tables.specs.Tables.{device_shown}
 use native.Mathlib.Omega.{arith}
-use Rattle.script_tables.proofs.put_device.Reads as reads
-use Rattle.script_tables.proofs.put_device.Lts as lts
-use Rattle.script_tables.proofs.put_lengths.Reads as put-lengths-reads
-use Rattle.output.proofs.put_bytes.Reads as put-bytes-reads
-use Rattle.output.proofs.put_le.Reads as put-le-reads
 use Rattle.script_tables.proofs.put_device.Goals as goal
 
 pub put_lengths-b-requires : goal.put_lengths-b-requires
 put_lengths-b-requires c =
     omega (
-  arith,
-  after_pours _ _ c.put_le-a.ensures,
-  (length_le 4 c.args.place.at),
-
-)
+      arith,
+      after_pours _ _ c.put_le-a.ensures,
+      (length_le 4 c.args.place.at),
+    )
 
 pub put_bytes-requires : goal.put_bytes-requires
 put_bytes-requires c =
     omega (
-  arith,
-  after_pours _ _ c.put_le-a.ensures,
-  (length_le 4 c.args.place.at),
-  c.put_lengths-b.ensures.few,
-
-)
+      arith,
+      after_pours _ _ c.put_le-a.ensures,
+      (length_le 4 c.args.place.at),
+      c.put_lengths-b.ensures.few,
+    )
 
 pub returns : goal.returns
 unfolding device_shown

@@ -14,11 +14,6 @@ use Rattle.output.proofs.InParts.{after_pours, pours_then}
 use Rattle.row_order.specs.Spans.{in_order}
 use Rattle.script_tables.specs.Tables.{dirs_shown}
 use native.Mathlib.Omega.{arith}
-use Rattle.script_tables.proofs.put_dirs.Reads as reads
-use Rattle.script_tables.proofs.put_dirs.Lts as lts
-use Rattle.script_tables.proofs.no_spans.Reads as no-spans-reads
-use Rattle.script_tables.proofs.put_sorted.Reads as put-sorted-reads
-use Rattle.output.proofs.put_le.Reads as put-le-reads
 use Rattle.script_tables.proofs.put_dirs.Goals as goal
 
 pub slice_bounds-put_sorted-end : goal.slice_bounds-put_sorted-end
@@ -44,13 +39,16 @@ put_sorted-requires c =
 pub returns : goal.returns
 unfolding dirs_shown
 returns c =
-    record { dirs = pours_then (le 2 c.args.m) (cat run_of (in_order (dirs_of c.args.dirs.now c.args.m)))
+    record {
+      dirs = pours_then (le 2 c.args.m) (cat run_of (in_order (dirs_of c.args.dirs.now c.args.m)))
           (shown c.args.out.now c.args.at) c.put_le-a.ensures c.put_sorted.ensures.runs
           ∙ ap (λ (k : ℕ). pours (le 2 k ++ cat run_of (in_order (dirs_of c.args.dirs.now c.args.m)))
-          (shown c.args.out.now c.args.at)) (sym (length_dirs c.args.dirs.now c.args.m)); few = omega (
+          (shown c.args.out.now c.args.at)) (sym (length_dirs c.args.dirs.now c.args.m));
+      few = omega (
         arith,
         after_pours _ _ c.put_le-a.ensures,
         length_le 2 c.args.m,
         c.put_sorted.ensures.few,
         c.requires.1,
-      ) }
+      );
+    }

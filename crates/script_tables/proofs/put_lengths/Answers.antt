@@ -1,6 +1,6 @@
 -- The invariant: what is left to put out makes the whole. `cat_turn` passes a number.
 use mathlib.Core.Path.{◌∙◌, refl}
-use Prim.Native.Nat.{ℕ, ◌-◌}
+use Prim.Native.Nat.{ℕ}
 use lib.ListN.{get_or}
 use Rattle.le.specs.Le.{le}
 use Rattle.le.proofs.Fields.{length_le}

@@ -7,65 +7,51 @@ use Rattle.limits.specs.Limits.{max_path}
 use Rattle.le.specs.Le.{le}
 use Rattle.le.proofs.Fields.{length_le}
 use Rattle.slot_rows.proofs.InBuffers.{name_part}
-use Rattle.slot_rows.specs.Rows.{rows_of, at}
+use Rattle.slot_rows.specs.Rows.{rows_of}
 use Rattle.output.specs.Writer.{shown, pours, run_of}
 use Rattle.output.proofs.InParts.{after_pours, pours_then}
 use Rattle.script_tables.proofs.Turns.{row_is, length_run}
 use native.Mathlib.Omega.{arith}
-use Rattle.script_tables.proofs.put_row.Reads as reads
-use Rattle.script_tables.proofs.put_row.Lts as lts
-use Rattle.slot_rows.proofs.path_len.Reads as path-len-reads
-use Rattle.slot_rows.proofs.row_generation.Reads as row-generation-reads
-use Rattle.slot_rows.proofs.row_len.Reads as row-len-reads
-use Rattle.script_tables.proofs.marks.Reads as marks-reads
-use Rattle.output.proofs.put_le.Reads as put-le-reads
-use Rattle.output.proofs.put_run.Reads as put-run-reads
 use Rattle.script_tables.proofs.put_row.Goals as goal
 
 pub overflow_mul-from : goal.overflow_mul-from
 overflow_mul-from c =
     omega (
-  arith,
-  ((name_part _ _ _ _ c.requires.0 c.args.i c.requires.1 _ c.path_len-k.ensures).0),
-
-)
+      arith,
+      ((name_part _ _ _ _ c.requires.0 c.args.i c.requires.1 _ c.path_len-k.ensures).0),
+    )
 
 pub put_le-b-requires : goal.put_le-b-requires
 put_le-b-requires c =
     omega (
-  arith,
-  after_pours _ _ c.put_le-a.ensures,
-  (length_le 1 c.marks-m.result),
-
-)
+      arith,
+      after_pours _ _ c.put_le-a.ensures,
+      (length_le 1 c.marks-m.result),
+    )
 
 pub put_le-c-requires : goal.put_le-c-requires
 put_le-c-requires c =
     omega (
-  arith,
-  after_pours _ _ c.put_le-a.ensures,
-  (length_le 1 c.marks-m.result),
-  after_pours _ _ c.put_le-b.ensures,
-  (length_le 8 c.row_generation-g.result),
-
-)
+      arith,
+      after_pours _ _ c.put_le-a.ensures,
+      (length_le 1 c.marks-m.result),
+      after_pours _ _ c.put_le-b.ensures,
+      (length_le 8 c.row_generation-g.result),
+    )
 
 pub overflow_add-from : goal.overflow_add-from
 overflow_add-from c =
     omega (
-  arith,
-  (c.well_formed.1.0.0),
-  ((name_part _ _ _ _ c.requires.0 c.args.i c.requires.1 _ c.path_len-k.ensures).0),
-
-)
+      arith,
+      ((name_part _ _ _ _ c.requires.0 c.args.i c.requires.1 _ c.path_len-k.ensures).0),
+    )
 
 pub slice_bounds-put_run-end : goal.slice_bounds-put_run-end
 slice_bounds-put_run-end c =
     omega (
-  arith,
-  ((name_part _ _ _ _ c.requires.0 c.args.i c.requires.1 _ c.path_len-k.ensures).0),
-
-)
+      arith,
+      ((name_part _ _ _ _ c.requires.0 c.args.i c.requires.1 _ c.path_len-k.ensures).0),
+    )
 
 pub put_run-requires : goal.put_run-requires
 put_run-requires c =
@@ -87,7 +73,8 @@ returns c =
     let n = name_part _ _ _ _ c.requires.0 c.args.i c.requires.1 _ c.path_len-k.ensures in
     let rs = rows_of c.args.nums.now c.args.names.now c.args.n in
     let p : List ℕ = take (c.args.i * max_path + c.path_len-k.result - c.args.i * max_path)
-    (drop (c.args.i * max_path) c.args.names.now) in record { row = pours_then (le 1 c.marks-m.result)
+    (drop (c.args.i * max_path) c.args.names.now) in record {
+      row = pours_then (le 1 c.marks-m.result)
           (le 8 c.row_generation-g.result ++ le 8 c.row_len-l.result ++ run_of p)
           (shown c.args.out.now c.args.at) c.put_le-a.ensures
           (pours_then (le 8 c.row_generation-g.result) (le 8 c.row_len-l.result ++ run_of p) _
@@ -96,7 +83,8 @@ returns c =
           c.put_run.ensures))
           ∙ ap (λ (t : List ℕ). pours t (shown c.args.out.now c.args.at))
           (row_is c.args.queue.now rs c.args.i _ _ _ p c.marks-m.ensures
-          c.row_generation-g.ensures c.row_len-l.ensures n.1); few = omega (
+          c.row_generation-g.ensures c.row_len-l.ensures n.1);
+      few = omega (
         arith,
         after_pours _ _ c.put_le-a.ensures,
         length_le 1 c.marks-m.result,
@@ -108,4 +96,5 @@ returns c =
         length_run p,
         ap length n.1,
         c.requires.0.short c.args.i,
-      ) }
+      );
+    }

@@ -40,5 +40,8 @@ shape_of-out c =
 pub returns : goal.returns
 returns c =
     let f : ℕ → List ℕ = row_shown c.args.queue.now
-    (rows_of c.args.nums.now c.args.names.now c.args.n) in record { rows = done (cat f (range c.loop-i.i (c.args.n - c.loop-i.i))) (shown c.loop-i.out c.loop-i.a)
-          (each_end f c.args.n c.loop-i.i (omega arith)) ∙ c.loop-i.invariant.3; few = omega (arith, c.loop-i.invariant.1) }
+    (rows_of c.args.nums.now c.args.names.now c.args.n) in record {
+      rows = done (cat f (range c.loop-i.i (c.args.n - c.loop-i.i))) (shown c.loop-i.out c.loop-i.a)
+          (each_end f c.args.n c.loop-i.i (omega arith)) ∙ c.loop-i.invariant.3;
+      few = omega (arith, c.loop-i.invariant.1);
+    }

@@ -46,8 +46,9 @@ returns c =
     let w = parts d m c.args.spans.now _ c.requires.2 c.all_dirs.ensures h in
     let e = c.sort.ensures ∙ ap (sort (span_before d)) w in
     let o = shown c.args.out.now c.args.at in
-    let q = ap (cat (λ (x : ℕ). run_of (spelled d x))) e ∙ sorted_cat d m h run_of in let all = (
-      c.put_spans.ensures.runs ∙ ap (λ (l : List ℕ). pours l o) q,
-      (omega (arith, ap length e, sorted_many d m h, c.put_spans.ensures.few), e),
-    ) in
-    record { runs = all.0; few = all.1.0; parts = all.1.1 }
+    let q = ap (cat (λ (x : ℕ). run_of (spelled d x))) e ∙ sorted_cat d m h run_of in
+    record {
+      runs = c.put_spans.ensures.runs ∙ ap (λ (l : List ℕ). pours l o) q;
+      few = omega (arith, ap length e, sorted_many d m h, c.put_spans.ensures.few);
+      parts = e;
+    }

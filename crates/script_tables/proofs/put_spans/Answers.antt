@@ -1,7 +1,7 @@
 -- The invariant: what is left to put out makes the whole. `cat_turn` passes a run.
 use mathlib.Core.List.{List}
 use mathlib.Core.Path.{◌∙◌, refl, ap}
-use Prim.Native.Nat.{ℕ, ◌-◌}
+use Prim.Native.Nat.{ℕ}
 use lib.ListN.{get_or}
 use Rattle.row_order.specs.Spans.{spelled}
 use Rattle.row_order.specs.InOrder.{inside_get}

@@ -11,7 +11,7 @@ returns-then-request-eq0 c =
 pub returns-in_default : goal.returns-in_default
 returns-in_default c =
     let a = c.args in
-    not_whole a.request.now a.out.now c.if-request-eq0.false c.lends.ensures c.enum_told-1.given.1
+    not_whole a.request.now a.out.now c.if-request-eq0.false c.lends.ensures c.in_default.is
 
 pub overflow_add-end : goal.overflow_add-end
 overflow_add-end c =

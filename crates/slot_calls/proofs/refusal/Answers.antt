@@ -1,6 +1,5 @@
 -- One law for each way out: `wrong_shape`, `no_text_lem`, `too_long_lem`, `out_of_range`, `not_refused`.
-use mathlib.Core.Path.{sym, ◌∙◌}
-use borrow.Author.Tests.{not-true, not-false}
+use Rattle.std.proofs.Common.{sym, ◌∙◌, arith}
 use Rattle.slot_calls.proofs.Ways.{wrong_shape, no_text_lem, too_long_lem, out_of_range, not_refused}
 use Rattle.slot_calls.proofs.refusal.Goals as goal
 
@@ -21,7 +20,7 @@ returns-then-path-gt-MAX_PATH c =
 pub returns-then-phys-slot : goal.returns-then-phys-slot
 returns-then-phys-slot c =
     out_of_range _ _ _ _ _ (sym c.shape_ok.ensures ∙ c.if-not-shape_ok.false) (sym
-    c.is_text.ensures ∙ c.if-not-is_text.false) c.if-path-gt-MAX_PATH.false c.if-phys-slot.true
+    c.is_text.ensures ∙ c.if-not-is_text.false) (omega arith) (omega arith)
 
 pub returns : goal.returns
 returns c =

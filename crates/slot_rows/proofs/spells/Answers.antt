@@ -1,6 +1,6 @@
 -- Carried by `key_other`: paths with different keys are not equal.
 use mathlib.Core.Path.{sym, ◌∙◌}
-use Rattle.path.specs.Theorems.{key_other}
+use Rattle.path.proofs.Theorems.{key_other}
 use Rattle.slot_rows.proofs.spells.Goals as goal
 
 pub returns-then-key : goal.returns-then-key

@@ -6,7 +6,7 @@ use Rattle.lists.specs.Same.{same, same_bytes, same_refl, same_eq, same_bytes_re
 use Rattle.lists.specs.Order.{byte_order, byte_orders, Ranks, ranks, keyed}
 use Rattle.lists.specs.declared.Ordering.TheVariants.{Equal}
 use Rattle.path.specs.Path.{components, names, split, same_path, init, has_parent, is_parent, join, normal, path_order, key_of}
-use Rattle.path.specs.Parts.{formed, components_step, components_join, join_short}
+use Rattle.path.proofs.Parts.{formed, components_step, components_join, join_short}
 
 -- ---- equality
 

@@ -6,7 +6,7 @@ use Rattle.std.proofs.lemmas.Bool.{false≢true}
 use Rattle.lists.specs.Same.{same, same_bytes, same_length, same_bytes_refl}
 use Rattle.path.specs.Path.{grow, cut, split, idle, names, opening, components, is_root, slash, join, normal}
 use Rattle.path.specs.Walk.{rest}
-use Rattle.path.specs.Parts.{AllNamed, Formed, formed, split_run, rest_named, no_root}
+use Rattle.path.proofs.Parts.{AllNamed, Formed, formed, split_run, rest_named, no_root}
 use Rattle.path.specs.Spelling.{idle_slash, has_idle, is_normal}
 
 -- ---- the first part and those behind it
