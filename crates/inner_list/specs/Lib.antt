@@ -1,4 +1,4 @@
--- Contents of specs/: the definitions that the contracts cite, their examples, and theorems.
+-- Contents of specs/: the definitions that the contracts cite, and theorems.
 
 -- read_dir (01, "The calls" and "Numbers that come back").
 pub mod Listing
