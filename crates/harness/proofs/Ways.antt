@@ -4,12 +4,11 @@ use mathlib.Core.Path.{◌≡◌, refl, sym, ap, ap₂, ◌∙◌}
 use mathlib.Core.Bool.{Bool, true, false, cond, not}
 use mathlib.Core.List.{List, ◌++◌}
 use borrow.Author.Tests.{lt-ltb, le-ltb, eq-eqb, ne_eqb}
-use lib.ListN.{length, take, drop, replicate}
-use lib.Seq.{take-length}
+use lib.ListN.{length, take, drop}
 use Rattle.le.specs.Le.{laid}
-use Rattle.le.proofs.Parts.{laid_front, laid_whole}
+use Rattle.le.proofs.Parts.{laid_front}
 use Rattle.text.specs.Text.{is_text}
-use Rattle.path.specs.Path.{components, same_path, has_parent, join, normal, parent_of}
+use Rattle.path.specs.Path.{components, same_path, has_parent, normal, parent_of}
 use Rattle.path.specs.Walk.{UpTo}
 use Rattle.header.specs.Block.{block_len, max_path, header_of, encoded, decoded}
 use Rattle.header.proofs.BlockLaws.{short_absent}

@@ -1,5 +1,5 @@
 -- The format of the exported calls: what each answers, and what the buffer that was lent to it then holds. (`slot_check` answers `fnv_from`.)
-use Rattle.std.specs.Prelude.{ℕ, ◌*◌, ◌^◌, Bool, cond, not, List, ◌++◌, length, take, replicate, eqb, ltb}
+use Rattle.std.specs.Prelude.{ℕ, ◌*◌, ◌^◌, cond, not, List, ◌++◌, length, take, replicate, eqb, ltb}
 use Rattle.le.specs.Le.{le, laid}
 use Rattle.text.specs.Text.{is_text}
 use Rattle.path.specs.Path.{components, same_path, has_parent, normal, parent_of}

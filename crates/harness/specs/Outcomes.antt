@@ -1,6 +1,6 @@
 -- What a refusal of an exported call leaves: the buffer as it was. (That there is one outcome is said of the contracts, in promises_tied.)
-use Rattle.std.specs.Prelude.{ℕ, ◌*◌, ◌^◌, ◌<◌, ◌≤◌, ◌≡◌, refl, Bool, true, false, cond, not, List, length, take, ltb}
-use Rattle.std.proofs.Common.{◌∙◌, arith, ltb-false}
+use Rattle.std.specs.Prelude.{ℕ, ◌^◌, ◌<◌, ◌≤◌, ◌≡◌, refl, Bool, true, false, cond, not, List, length, take, ltb}
+use Rattle.std.proofs.Common.{arith, ltb-false}
 use Rattle.le.specs.Le.{laid}
 use Rattle.text.specs.Text.{is_text}
 use Rattle.path.specs.Path.{components, has_parent, normal, parent_of}

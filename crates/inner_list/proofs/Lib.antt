@@ -4,3 +4,5 @@
 pub mod Ways
 -- The ways out of read_dir: the parts that were picked stand for the listing of the pool's state.
 pub mod Outs
+-- Listings in small: 46 is `.`, 47 is `/`, 97 is `a`, 98 is `b`, 99 is `c`, 100 is `d`.
+pub mod Examples

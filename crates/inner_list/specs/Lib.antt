@@ -1,4 +1,4 @@
--- Contents of specs/: the definitions that the contracts cite, their examples, and theorems.
+-- Contents of specs/: the definitions that the contracts cite, and theorems.
 
 -- read_dir (01, "The calls" and "Numbers that come back").
 pub mod Listing
@@ -6,5 +6,3 @@ pub mod Listing
 pub mod Parts
 -- What a listing is: its files rise in byte order of normal spelling, and so do its directories.
 pub mod Theorems
--- Listings in small: 46 is `.`, 47 is `/`, 97 is `a`, 98 is `b`, 99 is `c`, 100 is `d`.
-pub mod Examples

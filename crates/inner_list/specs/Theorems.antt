@@ -8,7 +8,7 @@ use Rattle.lists.specs.Distinct.Distinct.{more}
 use Rattle.lists.specs.Runs.{range}
 use Rattle.lists.specs.Sort.{All, Apart, OneWay, keep, sort, by, apart_keep}
 use Rattle.lists.specs.Sorted.{Ordered, ordered_sort}
-use Rattle.path.specs.Path.{normal, is_parent, path_order}
+use Rattle.path.specs.Path.{is_parent, path_order}
 use Rattle.path.proofs.Theorems.{same_normal}
 use Rattle.slot_rows.specs.Rows.{Row, none, at, is_bound, path_of}
 use Rattle.dir_rows.specs.Dirs.{Normals, has_path}

@@ -1,9 +1,8 @@
 -- One law of Ways.antt for each way out. `said` carries the two behind the decoder.
-use mathlib.Core.Path.{sym, ap, ◌∙◌, ◌≡◌}
+use mathlib.Core.Path.{ap, ◌∙◌, ◌≡◌}
 use Prim.Native.Nat.{ℕ}
 use mathlib.Core.List.{List}
-use lib.ListN.{length, take, length-replicate}
-use lib.Seq.{length-take-le}
+use lib.ListN.{take}
 use Rattle.header.specs.Block.{block_len, decoded}
 use Rattle.harness.specs.Calls.{outcome, said_of}
 use Rattle.harness.proofs.Ways.{decode_small, decode_says, decode_short}

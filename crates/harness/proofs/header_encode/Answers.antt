@@ -1,7 +1,5 @@
 -- One law of Ways.antt for each way out. `encode_done` is the last.
 use mathlib.Core.Path.{◌≡◌, sym, ap, ◌∙◌}
-use mathlib.Core.Bool.{false, not}
-use Rattle.text.specs.Text.{is_text}
 use Rattle.le.specs.Le.{laid}
 use Rattle.harness.proofs.Ways.{told, copied, encode_no_text, encode_long, encode_small, encode_done}
 use Rattle.header.proofs.BlockLaws.{length_encoded}

@@ -1,6 +1,5 @@
 -- The count is what the searches made so far come to: `hits_start`, then `hits_all` or `hits_fail`.
 use native.Mathlib.Omega.{arith}
-use Prim.Native.Nat.{◌-◌}
 use mathlib.Core.Path.{◌≡◌, sym, ap, ◌∙◌}
 use Rattle.inner_open.specs.declared.Reader.{Reader}
 use Rattle.harness.specs.Calls.{hits}

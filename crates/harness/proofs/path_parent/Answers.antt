@@ -1,10 +1,6 @@
 -- The ways out are `parent_no_text`, `parent_none` and `parent_text`.
-use mathlib.Core.Path.{◌≡◌, sym, subst, ◌∙◌}
-use mathlib.Core.Bool.{false, not}
-use Rattle.text.specs.Text.{is_text}
+use mathlib.Core.Path.{sym, ◌∙◌}
 use lib.Seq.{length-take-le}
-use Rattle.lists.specs.declared.Found.{Found}
-use Rattle.path.specs.Walk.{UpOf}
 use Rattle.harness.proofs.Ways.{told, parent_no_text, parent_none, parent_text}
 use Rattle.harness.proofs.path_parent.Goals as goal
 

@@ -1,7 +1,6 @@
 -- The ways out are `same_no_text`, `same_no_text_2` and `same_said`.
-use mathlib.Core.Path.{◌≡◌, sym, ◌∙◌}
-use mathlib.Core.Bool.{true, false, not}
-use Rattle.text.specs.Text.{is_text}
+use mathlib.Core.Path.{sym, ◌∙◌}
+use mathlib.Core.Bool.{true, false}
 use Rattle.harness.proofs.Ways.{told, same_no_text, same_no_text_2, same_said}
 use Rattle.harness.proofs.path_same.Goals as goal
 

@@ -1,7 +1,5 @@
 -- The invariant `Picking`: what is still to be picked makes the whole of it.
-use Prim.Native.Nat.{◌-◌}
 use mathlib.Core.Path.{sym, ◌∙◌}
-use Rattle.row_order.specs.Spans.{dir_span}
 use Rattle.row_order.specs.Picks.{picking_start, picking_yes, picking_no, picking_end}
 use Rattle.inner_list.proofs.Ways.{child_dirs_lem}
 use native.Mathlib.Omega.{arith}

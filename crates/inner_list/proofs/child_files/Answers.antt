@@ -1,9 +1,6 @@
 -- The invariant `Picking`: what is still to be picked makes the whole of it.
-use Prim.Native.Nat.{◌-◌}
 use mathlib.Core.Path.{sym, ◌∙◌}
-use Rattle.row_order.specs.Spans.{file_span}
 use Rattle.row_order.specs.Picks.{picking_start, picking_yes, picking_no, picking_end}
-use Rattle.inner_list.specs.Listing.{is_child}
 use Rattle.inner_list.proofs.Ways.{child_files_lem}
 use native.Mathlib.Omega.{arith}
 use Rattle.inner_list.proofs.child_files.Goals as goal

@@ -1,6 +1,5 @@
 -- The invariant `Putting`: what is still to be written makes the whole of it.
 use Rattle.row_order.specs.InOrder.{inside_get}
-use Prim.Native.Nat.{◌-◌}
 use Rattle.inner_list.proofs.Ways.{putting_start, putting_more, putting_end, next_fits, next_long}
 use native.Mathlib.Omega.{arith}
 use Rattle.inner_list.proofs.put_entries.Goals as goal

@@ -1,5 +1,5 @@
 -- Carried by `entry_put`: three stores, one behind the other, are one.
-use mathlib.Core.Path.{refl, ◌∙◌}
+use mathlib.Core.Path.{refl}
 use lib.ListN.{length-set}
 use Rattle.inner_list.proofs.Ways.{entry_put}
 use native.Mathlib.Omega.{arith}

@@ -1,12 +1,7 @@
 -- One law for each way out: `not_held`, `too_small`, `done`.
-use mathlib.Core.Bool.{true}
-use Rattle.slot_rows.specs.Rows.{rows_of}
-use Rattle.dir_rows.specs.Dirs.{has_path}
-use Rattle.dir_rows.specs.Rows.{dirs_of}
-use Rattle.inner_list.specs.Parts.{child_files, child_dirs}
 use native.Mathlib.Omega.{arith}
-use mathlib.Core.Path.{sym, ◌∙◌, ◌≡◌}
-use Rattle.inner_list.proofs.Outs.{files_front, folders_front, dirs_lent, files_ready, dirs_ready, size_low, not_held, too_small, fill_ready, done, Front}
+use mathlib.Core.Path.{sym, ◌∙◌}
+use Rattle.inner_list.proofs.Outs.{files_front, folders_front, dirs_lent, files_ready, dirs_ready, size_low, not_held, too_small, fill_ready, done}
 use Rattle.inner_list.proofs.read_dir.Goals as goal
 
 pub dir_find-requires : goal.dir_find-requires

@@ -1,5 +1,4 @@
 -- The invariant: the size so far and that of the rest are the whole.
-use Prim.Native.Nat.{◌-◌}
 use Rattle.inner_list.proofs.Ways.{size_turn, size_few, size_end}
 use native.Mathlib.Omega.{arith}
 use Rattle.inner_list.proofs.size_of.Goals as goal

@@ -1,5 +1,4 @@
 -- The invariant: what is left to put out makes the whole. `cat_turn` passes a line.
-use Prim.Native.Nat.{◌-◌}
 use mathlib.Core.Path.{refl, ◌∙◌}
 use lib.ListN.{get_or}
 use Rattle.output.proofs.InParts.{after_pours, cat_turn, cat_end}

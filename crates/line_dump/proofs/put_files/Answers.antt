@@ -1,5 +1,5 @@
 -- The invariant: what is left to put out makes the whole. `cat_turn` passes a line.
-use Prim.Native.Nat.{◌-◌, ℕ}
+use Prim.Native.Nat.{ℕ}
 use mathlib.Core.Path.{refl, ap, ◌∙◌}
 use lib.ListN.{get_or}
 use Rattle.slot_rows.specs.Rows.{rows_of}

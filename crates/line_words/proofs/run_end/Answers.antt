@@ -1,5 +1,4 @@
 -- The invariant: the end is that of the run that starts at `i`. `no_stop` passes a byte.
-use Prim.Native.Nat.{◌-◌}
 use native.Mathlib.Omega.{arith}
 use mathlib.Core.Path.{refl, sym, ◌∙◌}
 use Rattle.line_words.proofs.Ways.{at_stop, no_stop, at_end}
