@@ -9,7 +9,7 @@ use lib.ListN.{length, take, drop, length-append}
 use lib.Seq.{take_all, take_at, take-append-add, length-take-le}
 use borrow.Author.Tests.{leb-true, leb-false}
 use Rattle.le.specs.Le.{laid}
-use Rattle.le.proofs.Parts.{copy_back, length_laid}
+use Rattle.le.proofs.Parts.{mid_back, length_laid}
 use Rattle.slots.specs.Slots.{extended}
 
 -- as much of a part as there is room for
@@ -26,15 +26,15 @@ cut part room n e = go (leb (length part) room) refl
         ap (λ (k : ℕ). take k part) z
 
 module _ (d part : List ℕ) (held n : ℕ) {ys : List ℕ} (h : held ≤ length d) (e : n ≡ min (length d - held) (length part))
-    (f : ys ≡ take (length (take n part)) (take n part) ++ drop (length (take n part)) (take (length d - held) (drop held d))) where
+    (f : ys ≡ take n part) where
   abbrev after : List ℕ
-  after = take held d ++ (ys ++ drop (length d - held) (drop held d))
+  after = take held d ++ (ys ++ drop (held + n - held) (drop held d))
 
   few : length (take n part) ≡ n
   few = length-take-le n part (omega arith)
 
   after_laid : after ≡ laid d held (take n part)
-  after_laid = copy_back held (length d - held) d (take n part) (omega arith) f
+  after_laid = rw f (mid_back held n d (take n part) few)
 
   pub appended_fits : held + n ≤ length after
   appended_fits = rw (after_laid, length_laid d held (take n part) (omega (arith, few))) (omega arith)

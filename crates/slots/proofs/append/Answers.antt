@@ -1,5 +1,4 @@
 -- What is held then is what was held and the part, cut at the buffer's end: `appended`.
-use Prim.Native.Nat.{◌-◌}
 use Rattle.slots.proofs.Held.{appended, appended_fits}
 use Rattle.slots.proofs.append.Goals as goal
 
