@@ -5,7 +5,7 @@ use Rattle.demo.proofs.read.Goals as goal
 
 pub returns-in_default : goal.returns-in_default
 returns-in_default c =
-    says_nothing c.args.block c.decode.ensures c.enum_told-1.given.1
+    says_nothing c.args.block c.decode.ensures c.in_default.is
 
 pub returns-then-not-h : goal.returns-then-not-h
 returns-then-not-h c =

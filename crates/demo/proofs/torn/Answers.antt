@@ -1,17 +1,8 @@
--- `copied`: a copy of 20 bytes, and the rest as it was.
-use mathlib.Core.Path.{ap, ◌∙◌, ◌≡◌}
-use Prim.Native.Nat.{ℕ}
-use mathlib.Core.List.{List, ◌++◌}
-use lib.ListN.{length, take, drop}
-use lib.Seq.{take-length, length-take-le}
+-- Both blocks have the 20 bytes that are copied.
+use Rattle.std.proofs.Common.{sym, ◌∙◌, length-take-le}
 use borrow.Author.Rules.{rules}
 use Rattle.demo.proofs.torn.Goals as goal
 
--- a copy of k bytes, and the rest as it was
-copied : (s d : List ℕ) (k : ℕ) → length s ≡ k → take (length s) s ++ drop (length s) d ≡ s ++ drop k d
-copied s d k n = rw take-length (ap (λ (i : ℕ). s ++ drop i d) n)
-
-pub returns : goal.returns
-returns c =
-    let a = c.args in
-    c.copy_from_slice.ensures.after ∙ copied (take 20 a.t2) a.old 20 (length-take-le 20 a.t2 (search rules))
+pub copy_from_slice-requires : goal.copy_from_slice-requires
+copy_from_slice-requires c =
+    length-take-le 20 c.args.old (search rules) ∙ sym (length-take-le 20 c.args.new (search rules))

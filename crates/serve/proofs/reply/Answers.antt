@@ -1,8 +1,0 @@
--- The part that is written lies in the buffer.
-use mathlib.Core.Path.{sym}
-use lib.Seq.{length-take-le}
-use Rattle.serve.proofs.reply.Goals as goal
-
-pub slice_bounds-write_all-end : goal.slice_bounds-write_all-end
-slice_bounds-write_all-end c =
-    sym (length-take-le _ _ c.if-out-len.false)
