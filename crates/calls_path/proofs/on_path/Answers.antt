@@ -3,7 +3,8 @@ use Rattle.calls_gate.specs.Table.{takes_of}
 use Rattle.calls_gate.specs.Calls.{opened, reading, listed, found, described, inner_m}
 use Rattle.calls_gate.proofs.Passed.{ready}
 use Rattle.calls_gate.proofs.OnPath.{no_other}
-use Rattle.calls_path.proofs.Arms.{arm, quiet_is, made_is}
+use Rattle.calls_path.proofs.Arms.{arm, quiet_is, made_is, sync_dir_ready, sync_dir_made, remove_file_ready, remove_file_made, exists_ready, exists_made, metadata_ready, metadata_made}
+use borrow.Author.Rules.{rules}
 use mathlib.Core.Path.{refl, ap}
 use Rattle.calls_path.proofs.on_path.Goals as goal
 
@@ -28,15 +29,12 @@ returns-in-OpenRead c =
     arm _ _ _ _ _ _ _ _ _ c.in-OpenRead.is (ap (reading c.args.buf.now _) c.open_read-d.ensures)
 
 pub sync_dir-d-requires : goal.sync_dir-d-requires
-unfolding takes_of
 sync_dir-d-requires c =
-    ready _ _ _ _ _ _ c.requires.passed c.in-SyncDir.is refl
+    search (rules, sync_dir_ready)
 
 pub returns-in-SyncDir : goal.returns-in-SyncDir
-unfolding inner_m
 returns-in-SyncDir c =
-    arm _ _ _ _ _ _ _ _ _ c.in-SyncDir.is
-    (quiet_is _ _ _ _ _ _ _ _ _ _ c.quiet.ensures _ c.sync_dir-d.ensures)
+    search (rules, sync_dir_made)
 
 pub rename-d-requires : goal.rename-d-requires
 unfolding takes_of
@@ -50,15 +48,12 @@ returns-in-Rename c =
     (quiet_is _ _ _ _ _ _ _ _ _ _ c.quiet-in-Rename.ensures _ c.rename-d.ensures)
 
 pub remove_file-d-requires : goal.remove_file-d-requires
-unfolding takes_of
 remove_file-d-requires c =
-    ready _ _ _ _ _ _ c.requires.passed c.in-RemoveFile.is refl
+    search (rules, remove_file_ready)
 
 pub returns-in-RemoveFile : goal.returns-in-RemoveFile
-unfolding inner_m
 returns-in-RemoveFile c =
-    arm _ _ _ _ _ _ _ _ _ c.in-RemoveFile.is
-    (quiet_is _ _ _ _ _ _ _ _ _ _ c.quiet-in-RemoveFile.ensures _ c.remove_file-d.ensures)
+    search (rules, remove_file_made)
 
 pub create_dir_all-d-requires : goal.create_dir_all-d-requires
 unfolding takes_of
@@ -83,24 +78,20 @@ returns-in-ReadDir c =
     arm _ _ _ _ _ _ _ _ _ c.in-ReadDir.is (ap (listed _) c.read_dir-d.ensures)
 
 pub exists-d-requires : goal.exists-d-requires
-unfolding takes_of
 exists-d-requires c =
-    (ready _ _ _ _ _ _ c.requires.passed c.in-Exists.is refl).pool
+    search (rules, exists_ready)
 
 pub returns-in-Exists : goal.returns-in-Exists
-unfolding inner_m
 returns-in-Exists c =
-    arm _ _ _ _ _ _ _ _ _ c.in-Exists.is (ap (found c.args.buf.now _) c.exists-d.ensures)
+    search (rules, exists_made)
 
 pub metadata-d-requires : goal.metadata-d-requires
-unfolding takes_of
 metadata-d-requires c =
-    (ready _ _ _ _ _ _ c.requires.passed c.in-Metadata.is refl).pool
+    search (rules, metadata_ready)
 
 pub returns-in-Metadata : goal.returns-in-Metadata
-unfolding inner_m
 returns-in-Metadata c =
-    arm _ _ _ _ _ _ _ _ _ c.in-Metadata.is (ap (described c.args.buf.now _) c.metadata-d.ensures)
+    search (rules, metadata_made)
 
 pub returns-in_default : goal.returns-in_default
 returns-in_default c =
