@@ -16,7 +16,7 @@ use Rattle.slot_rows.specs.Rows.{Row, none, at, path_of, rows_of, Flat}
 use Rattle.dir_rows.specs.Dirs.{has_path}
 use Rattle.dir_rows.specs.Rows.{dirs_of, FlatDirs}
 use Rattle.dir_rows.proofs.InBuffer.{dirs_long}
-use Rattle.pool_state.specs.State.{Bufs, view, IsPool}
+use Rattle.pool_state.specs.State.{Bufs, State, view, IsPool}
 use Rattle.pool_state.specs.InBuffers.{pool_rows, pool_dirs}
 use Rattle.row_order.specs.Spans.{spelled, AllInside, span_before, in_order, file_span, dir_span}
 use Rattle.row_order.specs.InOrder.{spelled_sort}
@@ -58,6 +58,11 @@ unfolding entries
 entries_spell kind b xs ps h =
     cat_map (λ (x : ℕ). entry kind (spelled b x)) (entry kind) (spelled b) (λ x. refl) (sort (span_before b) xs)
     ∙ ap (cat (entry kind)) (spelled_sort b xs ∙ ap in_order h)
+
+-- what a listing is, for any state: files in order, then directories
+listing_is : (dir : List ℕ) (s : State) → listing_of dir s ≡ cat (entry 0) (in_order (files_in dir s)) ++ cat (entry 1) (in_order (dirs_in dir s))
+unfolding listing_of
+listing_is dir s = refl
 
 module _ (b : Bufs) (P : IsPool b) (path : List ℕ) where
   abbrev rs : List Row
@@ -136,8 +141,9 @@ module _ (b : Bufs) (P : IsPool b) (path : List ℕ) where
       map_same (x ∷ l) = ap {B = List (List ℕ)} (λ t. x ∷ t) (map_same l)
 
   listed : entries 0 b.names (sort (span_before b.names) (child_files path rs)) ++ entries 1 b.dirs (sort (span_before b.dirs) (child_dirs path ds)) ≡ listing_of path (view b)
-  unfolding listing_of
-  listed = ap₂ (λ (x y : List ℕ). x ++ y) (entries_spell 0 b.names (child_files path rs) _ files_spell) (entries_spell 1 b.dirs (child_dirs path ds) _ folders_spell)
+  listed =
+      ap₂ (λ (x y : List ℕ). x ++ y) (entries_spell 0 b.names (child_files path rs) _ files_spell) (entries_spell 1 b.dirs (child_dirs path ds) _ folders_spell)
+      ∙ sym (listing_is path (view b))
 
   listed_long : length (listing_of path (view b)) ≡ size_of (child_files path rs) + size_of (child_dirs path ds)
   listed_long =

@@ -1,7 +1,7 @@
 -- The spans that a dump sorts: how many they are, where they lie, and what lines they stand for.
 use Prim.Native.Nat.{ℕ, ◌*◌, ◌≤◌, ◌<◌}
 use native.Mathlib.Omega.{arith}
-use mathlib.Core.Path.{◌≡◌, sym, ap, ◌∙◌}
+use mathlib.Core.Path.{◌≡◌, refl, sym, ap, ◌∙◌}
 use mathlib.Core.Bool.{Bool}
 use mathlib.Core.List.{List, [], ◌∷◌, map}
 use lib.ListN.{length, take}
@@ -32,6 +32,11 @@ front_back l xs d k n e f h m =
 
 -- ---- files
 
+-- what the files of a dump are, for any rows
+files_are : (rs : List Row) → files_of rs ≡ sort (file_before rs) (keep (λ i. is_bound (at rs i)) (range 0 (length rs)))
+unfolding files_of
+files_are rs = refl
+
 module _ (cap n : ℕ) (l s : List ℕ) (F : Flat cap n l s) where
   abbrev rs : List Row
   rs = rows_of l s n
@@ -57,11 +62,12 @@ module _ (cap n : ℕ) (l s : List ℕ) (F : Flat cap n l s) where
       (rw (file_spans_lem l s n) (all_mapped (file_span rs) (λ x. slot_of x < n) (keep held (range 0 n)) (all_keep held (λ i. slot_of (file_span rs i) < n) (range 0 n) p)))
 
   pub files_text_lem : cat (λ x. file_line rs (slot_of x)) (sort (span_before s) (file_spans rs)) ≡ files_text rs
-  unfolding files_text files_of file_spans
+  unfolding files_text file_spans
   files_text_lem =
       let is = keep held (range 0 (length rs)) in
       let f : ℕ → List ℕ = λ x. file_line rs (slot_of x) in
       ap (cat f) (files_sorted cap n l s F is) ∙ cat_map (file_span rs) f (file_line rs) (λ i. ap (file_line rs) (file_slot_lem cap n l s F i)) (sort (file_before rs) is)
+      ∙ ap (cat (file_line rs)) (sym (files_are rs))
 
   pub files_count : length (sort (span_before s) (file_spans rs)) ≤ n
   files_count = omega (arith, length_sorted (span_before s) (file_spans rs), files_few)
