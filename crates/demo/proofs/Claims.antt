@@ -1,4 +1,5 @@
 -- Of a block that claims: its path lies in it. And the ways out of `read`.
+use Rattle.std.specs.Prelude.{None, Option, Some}
 use Prim.Native.Nat.{ℕ, ◌≤◌}
 use mathlib.Core.Path.{◌≡◌, refl, sym, ap, ◌∙◌}
 use mathlib.Core.Bool.{Bool, true, false, cond, not}
@@ -8,8 +9,6 @@ use lib.Dec.{eqb}
 use Rattle.header.specs.Block.{block_len, max_path, decoded}
 use Rattle.header.proofs.BlockLaws.{found}
 use Rattle.header.specs.declared.Header.{Header}
-use Rattle.header.specs.declared.Decoded.{Decoded}
-use Rattle.header.specs.declared.Decoded.TheVariants.{Absent, Found}
 use Rattle.demo.specs.Story.{read_as, says_of}
 use Rattle.demo.specs.declared.Says.{Says}
 use Rattle.demo.specs.declared.Says.TheVariants.{Nothing, Free, Claim}
@@ -21,14 +20,14 @@ free_no_claim : {g : ℕ} {h : Header} → Free g ≡ Claim h → ⊥
 free_no_claim e = let z : ◌≡◌ {A = ℕ} 0 1 = cc in omega arith
 
 -- a claim is the header that was decoded
-claimed : (d : Decoded) (h : Header) → read_as d ≡ Claim h → d ≡ Found h
-claimed Absent h e = absurd (no_claim e)
-claimed (Found k) h e = go (not k.in_use) (eqb k.path_len 0) e
+claimed : (d : Option Header) (h : Header) → read_as d ≡ Claim h → d ≡ Some h
+claimed None h e = absurd (no_claim e)
+claimed (Some k) h e = go (not k.in_use) (eqb k.path_len 0) e
   where
-    go : (t u : Bool) → cond t (Free k.generation) (cond u (Free k.generation) (Claim k)) ≡ Claim h → Found k ≡ Found h
+    go : (t u : Bool) → cond t (Free k.generation) (cond u (Free k.generation) (Claim k)) ≡ Claim h → Some k ≡ Some h
     go true u f = absurd (free_no_claim f)
     go false true f = absurd (free_no_claim f)
-    go false false f = let q : k ≡ h = cc in ap Found q
+    go false false f = let q : k ≡ h = cc in ap Some q
 
 pub claim_fits : (b : List ℕ) (h : Header) {s : Says} → s ≡ says_of b → s ≡ Claim h → h.path_len ≤ max_path
 unfolding says_of
@@ -39,21 +38,21 @@ claim_fits b h e f =
 
 -- ---- the ways out of `read`
 
-module _ (b : List ℕ) {d : Decoded} (e : d ≡ decoded b block_len) where
+module _ (b : List ℕ) {d : Option Header} (e : d ≡ decoded b block_len) where
   pub read_as_lem : read_as d ≡ says_of b
   unfolding says_of
   read_as_lem = ap read_as e
 
-  pub says_nothing : d ≡ Absent → Nothing ≡ says_of b
+  pub says_nothing : d ≡ None → Nothing ≡ says_of b
   says_nothing f = sym (ap read_as f) ∙ read_as_lem
 
-  module _ (h : Header) (f : d ≡ Found h) where
+  module _ (h : Header) (f : d ≡ Some h) where
     pub says_unused : not h.in_use ≡ true → Free h.generation ≡ says_of b
-    says_unused t = let g : read_as (Found h) ≡ Free h.generation = rw t in sym (ap read_as f ∙ g) ∙ read_as_lem
+    says_unused t = let g : read_as (Some h) ≡ Free h.generation = rw t in sym (ap read_as f ∙ g) ∙ read_as_lem
 
     module _ (t : not h.in_use ≡ false) where
       pub says_nameless : eqb h.path_len 0 ≡ true → Free h.generation ≡ says_of b
-      says_nameless u = let g : read_as (Found h) ≡ Free h.generation = rw (t, u) in sym (ap read_as f ∙ g) ∙ read_as_lem
+      says_nameless u = let g : read_as (Some h) ≡ Free h.generation = rw (t, u) in sym (ap read_as f ∙ g) ∙ read_as_lem
 
       pub says_claim : eqb h.path_len 0 ≡ false → Claim h ≡ says_of b
-      says_claim u = let g : read_as (Found h) ≡ Claim h = rw (t, u) in sym (ap read_as f ∙ g) ∙ read_as_lem
+      says_claim u = let g : read_as (Some h) ≡ Claim h = rw (t, u) in sym (ap read_as f ∙ g) ∙ read_as_lem

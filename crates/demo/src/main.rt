@@ -10,7 +10,7 @@ ghost use Rattle.demo.specs.Story.{says_of};
 
 use calls_gate::{Call, Reply};
 use device::{Geometry, Place};
-use header::{Decoded, Header};
+use header::Header;
 use pool_state::Pool;
 
 // Standard output's number at the C library.
@@ -200,7 +200,7 @@ fn torn(old: [u8; 512], new: [u8; 512]) -> [u8; 512]
 fn read(block: [u8; 512]) -> Says
     ensures { result ≡ says_of block }
 {
-    let Decoded::Found(h) = Header::decode(block, Header::LEN) else {
+    let Some(h) = Header::decode(block, Header::LEN) else {
         return Says::Nothing;
     };
     if !h.in_use {

@@ -1,12 +1,11 @@
 -- The format of the exported calls: what each answers, and what the buffer that was lent to it then holds. (`slot_check` answers `fnv_from`.)
+use Rattle.std.specs.Prelude.{None, Option, Some}
 use Rattle.std.specs.Prelude.{ℕ, ◌*◌, ◌^◌, cond, not, List, ◌++◌, length, take, replicate, eqb, ltb}
 use Rattle.le.specs.Le.{le, laid}
 use Rattle.text.specs.Text.{is_text}
 use Rattle.path.specs.Path.{components, same_path, has_parent, normal, parent_of}
 use Rattle.header.specs.Block.{block_len, max_path, header_of, flags_of, encoded, decoded}
 use Rattle.header.specs.declared.Header.{Header}
-use Rattle.header.specs.declared.Decoded.{Decoded}
-use Rattle.header.specs.declared.Decoded.TheVariants.{Absent, Found}
 use Rattle.pool_state.specs.declared.Pool.{Pool}
 use Rattle.pool_state.specs.State.{State, bufs, view, choosing}
 use Rattle.pool_test.specs.Test.{is_pool}
@@ -40,9 +39,9 @@ unfoldable pub numbers_of : Header → List ℕ
 numbers_of h = le 8 (flags_of h.in_use) ++ le 8 h.path_len ++ le 8 h.len ++ le 8 h.generation
 
 -- The outcome for each case of what a block says: 1 for absent, 0 and its numbers for a header.
-abbrev pub said_of : List ℕ → Decoded → Outcome
-said_of out Absent = outcome 1 out
-said_of out (Found h) = outcome 0 (laid out 0 (numbers_of h))
+abbrev pub said_of : List ℕ → Option Header → Outcome
+said_of out None = outcome 1 out
+said_of out (Some h) = outcome 0 (laid out 0 (numbers_of h))
 
 -- header_decode: "out below 32 bytes: 13. Else 0 and .. in out's first 32 bytes; or 1 for absent, out unchanged. The first 512 bytes of block
 -- count; fewer are a short read."

@@ -1,12 +1,12 @@
 -- What a refusal of an exported call leaves: the buffer as it was. (That there is one outcome is said of the contracts, in promises_tied.)
+use Rattle.std.specs.Prelude.{None, Option, Some}
+use Rattle.header.specs.declared.Header.{Header}
 use Rattle.std.specs.Prelude.{ℕ, ◌^◌, ◌<◌, ◌≤◌, ◌≡◌, refl, Bool, true, false, cond, not, List, length, take, ltb}
 use Rattle.std.proofs.Common.{arith, ltb-false}
 use Rattle.le.specs.Le.{laid}
 use Rattle.text.specs.Text.{is_text}
 use Rattle.path.specs.Path.{components, has_parent, normal, parent_of}
 use Rattle.header.specs.Block.{block_len, max_path, decoded}
-use Rattle.header.specs.declared.Decoded.{Decoded}
-use Rattle.header.specs.declared.Decoded.TheVariants.{Absent, Found}
 use Rattle.harness.specs.Calls.{Outcome, outcome, refusal, said_of, encode_call, decode_call, spelled, normal_call, parent_call}
 
 -- ---- a refusal leaves the buffer as it was
@@ -37,9 +37,9 @@ pub header_decode_refused_out_stays : (block out : List ℕ) → RefusedOutStays
 unfolding decode_call
 header_decode_refused_out_stays block out = either NotDone out (ltb (length out) 32) (λ n. refl) (said (decoded (take block_len block) (length block)))
   where
-    said : (d : Decoded) → RefusedOutStays NotDone out (said_of out d)
-    said Absent = λ n. refl
-    said (Found h) = λ n. absurd (n refl)
+    said : (d : Option Header) → RefusedOutStays NotDone out (said_of out d)
+    said None = λ n. refl
+    said (Some h) = λ n. absurd (n refl)
 
 -- From 2^32 on an answer with a value has a number. The count of a spelling stays below, as out has fewer bytes than that.
 abbrev pub Numbered : ℕ → Type 0

@@ -13,7 +13,7 @@ ghost use Rattle.script.specs.Script.{script_m};
 ghost use Rattle.harness.specs.Calls.{outcome, refusal, numbers_of, encode_call, decode_call, text_call, same_call, spelled};
 ghost use Rattle.harness.specs.Calls.{normal_call, parent_call, counted_pool, record_call, hits, lookups_call};
 
-use header::{Decoded, Header};
+use header::Header;
 use pool_state::Pool;
 
 // The state of the 32-bit FNV-1a behind these bytes, from the state `start`.
@@ -61,7 +61,7 @@ pub fn header_decode(block: &[u8], out: &mut [u8]) -> u8
     }
     let mut whole = header::zeros();
     whole.copy_from_slice(&block[..Header::LEN]);
-    let Decoded::Found(h) = Header::decode(whole, n) else {
+    let Some(h) = Header::decode(whole, n) else {
         return 1;
     };
     put_numbers(out, h);
@@ -122,7 +122,7 @@ pub fn path_parent(path: &[u8], out: &mut [u8]) -> u64
     if !text::is_text(path) {
         return refusal(3);
     }
-    let lists::Found::At(e) = path::parent_end(path) else {
+    let Some(e) = path::parent_end(path) else {
         return refusal(5);
     };
     spell(&path[..e], out)

@@ -1,4 +1,5 @@
 -- Laws of the header block that the layers above cite.
+use Rattle.std.specs.Prelude.{None, Option, Some}
 use Prim.Native.Nat.{ℕ, ◌<◌, ◌≤◌}
 use mathlib.Core.Path.{◌≡◌, refl, sym, ap}
 use mathlib.Core.Logic.{◌↔◌}
@@ -12,8 +13,6 @@ use Rattle.le.specs.Le.{field}
 use Rattle.text.specs.Text.{is_text}
 use Rattle.header.specs.Block.{block_len, magic, max_path, fixed, encoded, path_of, check_of, fields_of, decoded}
 use Rattle.header.specs.declared.Header.{Header}
-use Rattle.header.specs.declared.Decoded.{Decoded}
-use Rattle.header.specs.declared.Decoded.TheVariants.{Absent, Found}
 
 pub length_fixed : (h : Header) → length (fixed h) ≡ 28
 unfolding fixed
@@ -25,7 +24,7 @@ unfolding encoded
 length_encoded h path l = simp (length-append, length-replicate, length_fixed) (omega arith)
 
 -- Fewer than 512 bytes say nothing.
-pub short_absent : (b : List ℕ) (n : ℕ) → n < block_len → decoded b n ≡ Absent
+pub short_absent : (b : List ℕ) (n : ℕ) → n < block_len → decoded b n ≡ None
 unfolding decoded
 short_absent b n h = rw (lt-ltb n block_len h)
 
@@ -38,15 +37,15 @@ pub record Passed (b : List ℕ) (n : ℕ) (h : Header) : Type 0 where
   pub path_text : is_text (path_of b) ≡ true
   pub fields : h ≡ fields_of b
 
-never : {h : Header} → Absent ≡ Found h → ⊥
+never : {h : Header} → None ≡ Some h → ⊥
 never e = let z : ◌≡◌ {A = ℕ} 0 1 = cc in omega arith
 
-past : (t : Bool) (x : Decoded) {h : Header} → cond t Absent x ≡ Found h → (t ≡ false) × (x ≡ Found h)
+past : (t : Bool) (x : Option Header) {h : Header} → cond t None x ≡ Some h → (t ≡ false) × (x ≡ Some h)
 past true x e = absurd (never e)
 past false x e = (refl, e)
 
 -- A block says h exactly if it passes the tests and h is its fields.
-pub found : (b : List ℕ) (n : ℕ) (h : Header) → decoded b n ≡ Found h ↔ Passed b n h
+pub found : (b : List ℕ) (n : ℕ) (h : Header) → decoded b n ≡ Some h ↔ Passed b n h
 unfolding decoded
 found b n h = (
   λ e.
@@ -72,5 +71,5 @@ found b n h = (
         eq-eqb (field b 28 4) (check_of b) p.check_same,
         p.path_text,
       )
-      (ap Found (sym p.fields)),
+      (ap Some (sym p.fields)),
 )

@@ -1,4 +1,5 @@
 -- What the decoder answers, one law a way out, each under the tests that were passed before it.
+use Rattle.std.specs.Prelude.{None}
 use Prim.Native.Nat.{ℕ, ◌+◌, ◌-◌, ◌<◌, ◌≤◌}
 use mathlib.Core.Path.{◌≡◌, sym, ap, ◌∙◌}
 use mathlib.Core.Bool.{false}
@@ -11,20 +12,19 @@ use Rattle.fnv.proofs.AnyWidth.{fnv1a_append}
 use Rattle.le.specs.Le.{field}
 use Rattle.text.specs.Text.{is_text}
 use Rattle.header.specs.Block.{block_len, magic, max_path, header_of, in_use, path_of, check_of, fields_of, decoded}
-use Rattle.header.specs.declared.Decoded.TheVariants.{Absent}
 
 module _ (b : List ℕ) (n : ℕ) (whole : block_len ≤ n) where
-  pub other_magic : (field b 0 4 ≡ magic → ⊥) → Absent ≡ decoded b n
+  pub other_magic : (field b 0 4 ≡ magic → ⊥) → None ≡ decoded b n
   unfolding decoded
   other_magic a = rw (le-ltb n block_len whole, ne_eqb (field b 0 4) magic a)
 
   module _ (m : field b 0 4 ≡ magic) where
-    pub long_path : max_path < field b 8 4 → Absent ≡ decoded b n
+    pub long_path : max_path < field b 8 4 → None ≡ decoded b n
     unfolding decoded
     long_path a = rw (le-ltb n block_len whole, eq-eqb (field b 0 4) magic m, lt-ltb max_path (field b 8 4) a)
 
     module _ (p : field b 8 4 ≤ max_path) where
-      pub other_check : (field b 28 4 ≡ check_of b → ⊥) → Absent ≡ decoded b n
+      pub other_check : (field b 28 4 ≡ check_of b → ⊥) → None ≡ decoded b n
       unfolding decoded
       other_check a =
           rw (
@@ -34,7 +34,7 @@ module _ (b : List ℕ) (n : ℕ) (whole : block_len ≤ n) where
             ne_eqb (field b 28 4) (check_of b) a,
           )
 
-      pub no_text_lem : field b 28 4 ≡ check_of b → is_text (path_of b) ≡ false → Absent ≡ decoded b n
+      pub no_text_lem : field b 28 4 ≡ check_of b → is_text (path_of b) ≡ false → None ≡ decoded b n
       unfolding decoded
       no_text_lem k a =
           rw (

@@ -1,4 +1,5 @@
 -- The statements of specs/RoundTrip.antt. `layout` carries them: a block is read field by field, and only one block reads so.
+use Rattle.std.specs.Prelude.{Some}
 use Prim.Native.Nat.{ℕ, zero, suc, ◌+◌, ◌-◌, ◌^◌, ◌<◌, ◌≤◌}
 use mathlib.Core.Path.{◌≡◌, refl, sym, ap, ap₂, ◌∙◌, subst}
 use mathlib.Core.Bool.{Bool, true, false}
@@ -19,7 +20,6 @@ use Rattle.header.proofs.BlockLaws.{length_fixed, found}
 use Rattle.header.specs.RoundTrip.{Fits, Table, ZeroTail, Layout, DecodeEncode, EncodeDecode, EncodeOneOutcome, DecodeOneOutcome, CutShortDecodes, CutFreeDecodes}
 use Rattle.header.specs.declared.Header.{Header}
 use Rattle.header.proofs.Decode.{fields_are}
-use Rattle.header.specs.declared.Decoded.TheVariants.{Found}
 
 -- ---- flags
 
@@ -101,7 +101,7 @@ layout h path b f n y = (
 -- ---- there and back
 
 -- A block with the table of h says h.
-says : (b : List ℕ) (h : Header) (path : List ℕ) → Fits h path → Table b h path → is_text path ≡ true → decoded b block_len ≡ Found h
+says : (b : List ℕ) (h : Header) (path : List ℕ) → Fits h path → Table b h path → is_text path ≡ true → decoded b block_len ≡ Some h
 says b h path f t x =
     let p : path_of b ≡ path = ap (λ (k : ℕ). take k (drop 32 b)) t.at_8_path_length ∙ t.at_32_path in
     let bit : h ≡ header_of (in_use (flags_of h.in_use)) h.path_len h.len h.generation =
@@ -120,7 +120,7 @@ pub decode_encode : DecodeEncode
 decode_encode h path f x = says (encoded h path) h path f (encoded_table h path f) x
 
 -- A header that was decoded fits, with the path that its block has.
-pub found_fits : (b : List ℕ) (n : ℕ) (h : Header) → length b ≡ block_len → Bytes b → decoded b n ≡ Found h → Fits h (path_of b)
+pub found_fits : (b : List ℕ) (n : ℕ) (h : Header) → length b ≡ block_len → Bytes b → decoded b n ≡ Some h → Fits h (path_of b)
 found_fits b n h l y e =
     let p = (found b n h).0 e in
     let wide : (at : ℕ) → at + 8 ≤ block_len → field b at 8 < 2 ^ 64 =

@@ -1,12 +1,11 @@
 -- 01, The header block: the bytes of a header, and what a block says.
+use Rattle.std.specs.Prelude.{None, Option, Some}
 use Rattle.std.specs.Prelude.{ℕ, ◌-◌, ◌%◌, ◌≡◌, refl, Bool, true, false, cond, not, List, ◌++◌, length, take, drop, replicate, eqb, ltb}
 pub use Rattle.limits.specs.Limits.{max_path}
 use Rattle.fnv.specs.Fnv.{fnv1a32}
 use Rattle.le.specs.Le.{le, field}
 use Rattle.text.specs.Text.{is_text}
 use Rattle.header.specs.declared.Header.{Header}
-use Rattle.header.specs.declared.Decoded.{Decoded}
-use Rattle.header.specs.declared.Decoded.TheVariants.{Absent, Found}
 
 -- The constants of the header type: the block's length, the magic, the longest path.
 abbrev pub block_len : ℕ
@@ -83,10 +82,10 @@ fields_of b = header_of (in_use (field b 4 4)) (field b 8 4) (field b 12 8) (fie
 
 -- "Decoding says absent if fewer than 512 bytes were read, the magic differs, the path length passes 480, the check differs, or the path
 -- isn't text." Of b, n bytes were read.
-unfoldable pub decoded : List ℕ → ℕ → Decoded
+unfoldable pub decoded : List ℕ → ℕ → Option Header
 decoded b n =
-    cond (ltb n block_len) Absent
-    (cond (not (eqb (field b 0 4) magic)) Absent
-    (cond (ltb max_path (field b 8 4)) Absent
-    (cond (not (eqb (field b 28 4) (check_of b))) Absent
-    (cond (not (is_text (path_of b))) Absent (Found (fields_of b))))))
+    cond (ltb n block_len) None
+    (cond (not (eqb (field b 0 4) magic)) None
+    (cond (ltb max_path (field b 8 4)) None
+    (cond (not (eqb (field b 28 4) (check_of b))) None
+    (cond (not (is_text (path_of b))) None (Some (fields_of b))))))

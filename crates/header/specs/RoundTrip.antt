@@ -1,13 +1,12 @@
 -- What holds of the codec, as statements. proofs/RoundTrip.antt proves each under its name: `layout`, `decode_encode`, `encode_decode`,
 -- `encode_one_outcome`, `decode_one_outcome`, `cut_short_decodes`, `cut_free_decodes`.
+use Rattle.std.specs.Prelude.{Option, Some}
 use Rattle.std.specs.Prelude.{ℕ, ◌+◌, ◌-◌, ◌^◌, ◌<◌, ◌≤◌, ◌≡◌, ◌↔◌, true, List, [], ◌++◌, length, take, drop, replicate}
 use Rattle.fnv.specs.Fnv.{fnv1a32}
 use Rattle.le.specs.Le.{field, Bytes}
 use Rattle.text.specs.Text.{is_text}
 use Rattle.header.specs.Block.{block_len, magic, max_path, free_header, flags_of, encoded, path_of, decoded}
 use Rattle.header.specs.declared.Header.{Header}
-use Rattle.header.specs.declared.Decoded.{Decoded}
-use Rattle.header.specs.declared.Decoded.TheVariants.{Found}
 
 -- A header and its path as the code has them: what `encode` requires, and numbers of 64 bits.
 pub record Fits (h : Header) (path : List ℕ) : Type 0 where
@@ -38,12 +37,12 @@ Layout =
 
 -- "Decoding an encoded header gives it back". Its path has to be text: `encode` does not look.
 abbrev pub DecodeEncode : Type 0
-DecodeEncode = (h : Header) (path : List ℕ) → Fits h path → is_text path ≡ true → decoded (encoded h path) block_len ≡ Found h
+DecodeEncode = (h : Header) (path : List ℕ) → Fits h path → is_text path ≡ true → decoded (encoded h path) block_len ≡ Some h
 
 -- "encoding a decoded one gives the block back exactly if its flags are 0 or 1 and its tail is zero."
 abbrev pub EncodeDecode : Type 0
 EncodeDecode =
-    (b : List ℕ) (n : ℕ) (h : Header) → length b ≡ block_len → Bytes b → decoded b n ≡ Found h
+    (b : List ℕ) (n : ℕ) (h : Header) → length b ≡ block_len → Bytes b → decoded b n ≡ Some h
     → encoded h (path_of b) ≡ b ↔ (field b 4 4 ≤ 1) × ZeroTail b h.path_len
 
 -- Any two outcomes that the contract of `encode`, or of `decode`, allows are the same.
@@ -51,14 +50,14 @@ abbrev pub EncodeOneOutcome : Type 0
 EncodeOneOutcome = (h : Header) (path r r' : List ℕ) → r ≡ encoded h path → r' ≡ encoded h path → r ≡ r'
 
 abbrev pub DecodeOneOutcome : Type 0
-DecodeOneOutcome = (b : List ℕ) (n : ℕ) (r r' : Decoded) → r ≡ decoded b n → r' ≡ decoded b n → r ≡ r'
+DecodeOneOutcome = (b : List ℕ) (n : ℕ) (r r' : Option Header) → r ≡ decoded b n → r' ≡ decoded b n → r ≡ r'
 
 -- A header write that was cut to its first half, over any old block, still says the header where the path lies in that half.
 abbrev pub CutShortDecodes : Type 0
 CutShortDecodes =
     (h : Header) (path old : List ℕ) → Fits h path → h.path_len ≤ 224 → is_text path ≡ true
-    → decoded (take 256 (encoded h path) ++ drop 256 old) block_len ≡ Found h
+    → decoded (take 256 (encoded h path) ++ drop 256 old) block_len ≡ Some h
 
 -- A cut free header decodes as free.
 abbrev pub CutFreeDecodes : Type 0
-CutFreeDecodes = (g : ℕ) (old : List ℕ) → g < 2 ^ 64 → decoded (take 256 (encoded (free_header g) []) ++ drop 256 old) block_len ≡ Found (free_header g)
+CutFreeDecodes = (g : ℕ) (old : List ℕ) → g < 2 ^ 64 → decoded (take 256 (encoded (free_header g) []) ++ drop 256 old) block_len ≡ Some (free_header g)

@@ -1,6 +1,6 @@
 // The header block of a slot: 512 bytes by value, as one array. Fields are little-endian, and the
 // path lies in the block from byte 32 on. Ports `encode_header` and `decode_header` of
-// src/env/opfs/sah.rs. A block that isn't a header is answered by `Absent`, never refused.
+// src/env/opfs/sah.rs. A block that isn't a header is answered by `None`, never refused.
 #![tactic(auto)]
 
 ghost use Rattle.std.specs.Prelude.{◌≡◌, ◌≤◌, ◌++◌, length, drop, replicate};
@@ -13,13 +13,6 @@ pub struct Header {
     pub path_len: usize,
     pub len: u64,
     pub generation: u64,
-}
-
-// What a block says.
-#[derive(Clone, Copy)]
-pub enum Decoded {
-    Absent,
-    Found(Header),
 }
 
 impl Header {
@@ -73,37 +66,37 @@ impl Header {
     }
 
     // What a block says of which n bytes were read.
-    pub fn decode(block: [u8; 512], n: usize) -> Decoded
+    pub fn decode(block: [u8; 512], n: usize) -> Option<Header>
         ensures { result ≡ decoded block n }
     {
         if n < Header::LEN {
-            return Decoded::Absent;
+            return None;
         }
         if le::get_at(&block, 0, 4) != Header::MAGIC {
-            return Decoded::Absent;
+            return None;
         }
         let path_len = le::get_at(&block, 8, 4) as usize;
         if path_len > Header::MAX_PATH {
-            return Decoded::Absent;
+            return None;
         }
         let end = Header::FIXED + path_len;
         let part = fnv::fnv1a32(fnv::START, &block[..28]);
         let check = fnv::fnv1a32(part, &block[Header::FIXED..end]) as u64;
         if le::get_at(&block, 28, 4) != check {
-            return Decoded::Absent;
+            return None;
         }
         if text::is_text(&block[Header::FIXED..end]) {
             let flags = le::get_at(&block, 4, 4);
             let len = le::get_at(&block, 12, 8);
             let generation = le::get_at(&block, 20, 8);
-            Decoded::Found(Header {
+            Some(Header {
                 in_use: flags % 2 == 1,
                 path_len,
                 len,
                 generation,
             })
         } else {
-            Decoded::Absent
+            None
         }
     }
 }

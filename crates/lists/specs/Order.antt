@@ -1,9 +1,9 @@
 -- Three-way comparison: of numbers, its lexicographic lift to lists, and the laws of a total order.
+use Rattle.std.specs.declared.cmp.Ordering.{Ordering}
+use Rattle.std.specs.declared.cmp.Ordering.TheVariants.{Equal, Greater, Less}
 use Rattle.std.specs.Prelude.{◌≡◌, ℕ, ◌<◌, ◌≤◌, Bool, true, false, cond, ◌⊎◌, List, [], ◌∷◌, ◌++◌, nat_lt}
 use Rattle.std.proofs.Math.Path.{refl}
 use Rattle.std.proofs.Common.{inl, inr, lt_trans, le_antisymm, arith, ltb-true, ltb-false, lt-ltb, le-ltb}
-use Rattle.lists.specs.declared.Ordering.{Ordering}
-use Rattle.lists.specs.declared.Ordering.TheVariants.{Less, Equal, Greater}
 
 -- the order of the two the other way round
 abbrev pub flip : Ordering → Ordering

@@ -1,13 +1,12 @@
 -- Insertion sort by a strict order, and the step that selection takes through it: a listing is defined by the sort and made by selection.
 -- What the sort means is in Sorted.
+use Rattle.std.specs.Prelude.{None, Option, Some}
+use Rattle.std.specs.declared.cmp.Ordering.{Ordering}
+use Rattle.std.specs.declared.cmp.Ordering.TheVariants.{Equal, Greater, Less}
 use Rattle.std.specs.Prelude.{◌≡◌, ℕ, zero, suc, ◌+◌, ◌<◌, ◌≤◌, Bool, true, false, cond, List, [], ◌∷◌, ◌++◌, length, ◌≢◌}
 use Rattle.std.proofs.Math.Path.{refl, subst}
 use Rattle.std.proofs.Common.{sym, ap, ◌∙◌, arith}
 use Rattle.std.proofs.Math.ListN.{length-append}
-use Rattle.lists.specs.declared.Ordering.{Ordering}
-use Rattle.lists.specs.declared.Ordering.TheVariants.{Less, Equal, Greater}
-use Rattle.lists.specs.declared.Found.{Found}
-use Rattle.lists.specs.declared.Found.TheVariants.{At, Nothing}
 use Rattle.lists.specs.Order.{Ranks, flip}
 use Rattle.lists.specs.Runs.{range}
 use Rattle.lists.specs.Blocks.{cat}
@@ -27,9 +26,9 @@ unfoldable pub sort : {A : Type 0} → (A → A → Bool) → List A → List A
 sort less [] = []
 sort less (x ∷ xs) = insert less x (sort less xs)
 
-abbrev pub first_of : List ℕ → Found
-first_of [] = Nothing
-first_of (x ∷ xs) = At x
+abbrev pub first_of : List ℕ → Option ℕ
+first_of [] = None
+first_of (x ∷ xs) = Some x
 
 -- the first of two comes before the second
 abbrev pub is_less : Ordering → Bool
@@ -38,18 +37,18 @@ is_less Equal = false
 is_less Greater = false
 
 -- the better of what was found and x
-abbrev pub better_of : (ℕ → ℕ → Bool) → Found → ℕ → Found
-better_of less Nothing x = At x
-better_of less (At b) x = cond (less x b) (At x) (At b)
+abbrev pub better_of : (ℕ → ℕ → Bool) → Option ℕ → ℕ → Option ℕ
+better_of less None x = Some x
+better_of less (Some b) x = cond (less x b) (Some x) (Some b)
 
 -- the elements after the last one that was taken
-abbrev pub follows : (ℕ → ℕ → Bool) → Found → ℕ → Bool
-follows less Nothing x = true
-follows less (At j) x = less j x
+abbrev pub follows : (ℕ → ℕ → Bool) → Option ℕ → ℕ → Bool
+follows less None x = true
+follows less (Some j) x = less j x
 
-abbrev pub InRange : Found → ℕ → Type 0
-InRange Nothing n = Unit {0}
-InRange (At j) n = j < n
+abbrev pub InRange : Option ℕ → ℕ → Type 0
+InRange None n = Unit {0}
+InRange (Some j) n = j < n
 
 -- the order of elements by their keys
 abbrev pub by : {A K : Type 0} → (K → K → Ordering) → (A → K) → A → A → Bool
@@ -253,25 +252,25 @@ module _ (less : ℕ → ℕ → Bool) where
   first_insert x [] = refl
   first_insert x (y ∷ ys) = go (less x y)
     where
-      go : (b : Bool) → first_of (cond b (x ∷ y ∷ ys) (y ∷ insert less x ys)) ≡ cond b (At x) (At y)
+      go : (b : Bool) → first_of (cond b (x ∷ y ∷ ys) (y ∷ insert less x ys)) ≡ cond b (Some x) (Some y)
       go true = refl
       go false = refl
 
-  pub better_in : (o : Found) (x n : ℕ) → InRange o n → x < n → InRange (better_of less o x) n
-  better_in Nothing x n h k = k
-  better_in (At b) x n h k = go (less x b)
+  pub better_in : (o : Option ℕ) (x n : ℕ) → InRange o n → x < n → InRange (better_of less o x) n
+  better_in None x n h k = k
+  better_in (Some b) x n h k = go (less x b)
     where
-      go : (t : Bool) → InRange (cond t (At x) (At b)) n
+      go : (t : Bool) → InRange (cond t (Some x) (Some b)) n
       go true = k
       go false = h
 
   -- the selection step: where the first of the sort of what comes after `last` is m, the rest of the sort is the sort of what comes after m
-  pub select : Strict less → (last : Found) (m : ℕ) (l : List ℕ) → Apart less l
-      → first_of (sort less (keep (follows less last) l)) ≡ At m
-      → sort less (keep (follows less last) l) ≡ m ∷ sort less (keep (follows less (At m)) l)
+  pub select : Strict less → (last : Option ℕ) (m : ℕ) (l : List ℕ) → Apart less l
+      → first_of (sort less (keep (follows less last) l)) ≡ Some m
+      → sort less (keep (follows less last) l) ≡ m ∷ sort less (keep (follows less (Some m)) l)
   select S last m l a e = go (sort less (keep (follows less last) l)) refl e
     where
-      go : (s : List ℕ) → sort less (keep (follows less last) l) ≡ s → first_of s ≡ At m → sort less (keep (follows less last) l) ≡ m ∷ sort less (keep (follows less (At m)) l)
+      go : (s : List ℕ) → sort less (keep (follows less last) l) ≡ s → first_of s ≡ Some m → sort less (keep (follows less last) l) ≡ m ∷ sort less (keep (follows less (Some m)) l)
       go [] q f = let z : ◌≡◌ {A = ℕ} 0 1 = cc in absurd (omega arith)
       go (y ∷ ys) q f =
           let k : y ≡ m = cc in
@@ -280,11 +279,11 @@ module _ (less : ℕ → ℕ → Bool) where
           let p : follows less last m ≡ true = least_of less S (λ x. follows less last x ≡ true) m w (kept_pass (follows less last) l) in
           sort_step less S m w ∙ ap (λ (r : List ℕ). m ∷ sort less r) (keep_keep (follows less last) (less m) (λ x h. trans_after last p x h) l)
         where
-          trans_after : (o : Found) → follows less o m ≡ true → (x : ℕ) → less m x ≡ true → follows less o x ≡ true
-          trans_after Nothing g x h = refl
-          trans_after (At j) g x h = S.chain j m x g h
+          trans_after : (o : Option ℕ) → follows less o m ≡ true → (x : ℕ) → less m x ≡ true → follows less o x ≡ true
+          trans_after None g x h = refl
+          trans_after (Some j) g x h = S.chain j m x g h
 
-  pub select_none : (s : List ℕ) → first_of s ≡ Nothing → s ≡ []
+  pub select_none : (s : List ℕ) → first_of s ≡ None → s ≡ []
   select_none [] e = refl
   select_none (y ∷ ys) e = cc
 

@@ -1,4 +1,5 @@
 -- A survey of a pool keeps what makes a pool, and its losers stand apart: they are slots of the pool, neither bound nor free.
+use Rattle.std.specs.Prelude.{None, Option, Some}
 use Prim.Native.Nat.{ℕ, zero, suc, ◌≤◌, ◌<◌, max}
 use native.Mathlib.Decide.{ℕ_discrete}
 use native.Mathlib.Omega.{arith}
@@ -17,8 +18,6 @@ use Rattle.text.proofs.Grammar.{text_complete}
 use Rattle.path.specs.Path.{components, ancestors}
 use Rattle.path.proofs.Theorems.{same_path_lem, normal_short}
 use Rattle.header.specs.declared.Header.{Header}
-use Rattle.header.specs.declared.Decoded.{Decoded}
-use Rattle.header.specs.declared.Decoded.TheVariants.{Absent, Found}
 use Rattle.header.specs.Block.{decoded}
 use Rattle.header.specs.Block as Block
 use Rattle.header.proofs.BlockLaws.{found}
@@ -56,13 +55,13 @@ pub head_sane : (bs : List ℕ) → Sane (head_of bs)
 unfolding head_of
 head_sane bs = go (decoded bs (length bs)) refl
   where
-    use-sane : (h : Header) → decoded bs (length bs) ≡ Found h → (t : Bool) → Sane (cond t (claim (Block.path_of bs) h.generation h.len) (idle h.generation))
+    use-sane : (h : Header) → decoded bs (length bs) ≡ Some h → (t : Bool) → Sane (cond t (claim (Block.path_of bs) h.generation h.len) (idle h.generation))
     use-sane h e true = let P = (found bs (length bs) h).0 e in (P.path_text, simp length-take (omega (arith, P.path_fits)))
     use-sane h e false = tt
 
-    go : (x : Decoded) → decoded bs (length bs) ≡ x → Sane (said_of bs x)
-    go Absent e = tt
-    go (Found h) e = use-sane h e (h.in_use && ltb 0 h.path_len)
+    go : (x : Option Header) → decoded bs (length bs) ≡ x → Sane (said_of bs x)
+    go None e = tt
+    go (Some h) e = use-sane h e (h.in_use && ltb 0 h.path_len)
 
 -- What was read: sane heads, and no more of them than slots.
 abbrev Fine : ℕ → Reads → Type 0

@@ -1,4 +1,5 @@
 -- What the headers' claims are: text of at most 480 bytes, and not empty. 01, "The header block" and "Mount, adopt".
+use Rattle.std.specs.Prelude.{None, Option, Some}
 use mathlib.Core.Path.{◌≡◌, refl, ap}
 use mathlib.Core.Bool.{Bool, true, false, cond, ◌&&◌, false≢true}
 use mathlib.Core.List.{List, [], map}
@@ -11,8 +12,6 @@ use Rattle.limits.specs.Limits.{max_path}
 use Rattle.le.specs.Le.{field}
 use Rattle.text.specs.Text.{is_text, walk_of}
 use Rattle.header.specs.declared.Header.{Header}
-use Rattle.header.specs.declared.Decoded.{Decoded}
-use Rattle.header.specs.declared.Decoded.TheVariants.{Absent, Found}
 use Rattle.header.specs.Block as Block
 use Rattle.header.specs.Block.{decoded}
 use Rattle.header.proofs.BlockLaws.{Passed, found}
@@ -60,9 +59,9 @@ head_fit : (bs : List ℕ) → Fit (row_of (head_of bs))
 unfolding head_of
 head_fit bs = go (decoded bs (length bs)) refl
   where
-    go : (x : Decoded) → decoded bs (length bs) ≡ x → Fit (row_of (said_of bs x))
-    go Absent e = absent_fit
-    go (Found h) e = claim_fit bs h ((found bs (length bs) h).0 e) (h.in_use && ltb 0 h.path_len) refl
+    go : (x : Option Header) → decoded bs (length bs) ≡ x → Fit (row_of (said_of bs x))
+    go None e = absent_fit
+    go (Some h) e = claim_fit bs h ((found bs (length bs) h).0 e) (h.in_use && ltb 0 h.path_len) refl
 
 -- Every claim that was read is text of at most 480 bytes, and not empty.
 pub heads_fit : (plan : List ℕ) (g : Geometry) (i k : ℕ) (d : Dev) (j : ℕ) → Fit (at (map row_of (reads_m plan g i k d).heads) j)

@@ -1,5 +1,6 @@
 -- Headers into rows: what one read says (`said`), the four ways out of one slot, and the record `Staging` that the loop keeps: the rows so far and
 -- the heads ahead are the whole.
+use Rattle.std.specs.Prelude.{None, Option, Some}
 use mathlib.Core.Path.{◌≡◌, refl, sym, ap, ◌∙◌}
 use mathlib.Core.Bool.{Bool, true, false, cond, ◌&&◌, false≢true}
 use mathlib.Core.List.{List, [], ◌∷◌, ◌++◌, map, append_assoc, append-nil}
@@ -14,8 +15,6 @@ use Rattle.limits.specs.Limits.{max_path}
 use Rattle.le.specs.Le.{field, laid}
 use Rattle.le.proofs.Parts.{laid_whole, length_laid}
 use Rattle.header.specs.declared.Header.{Header}
-use Rattle.header.specs.declared.Decoded.{Decoded}
-use Rattle.header.specs.declared.Decoded.TheVariants.{Absent, Found}
 use Rattle.header.specs.Block.{path_of, decoded}
 use Rattle.header.proofs.BlockLaws.{Passed, short_absent, found}
 use Rattle.device.specs.declared.Place.{Place}
@@ -140,11 +139,11 @@ module _ (plan : List ℕ) (d : Dev) (h : Head) (cap i asked : ℕ) (l s : List 
 
 -- ---- what a header says of its slot
 
-module _ (b : List ℕ) (n : ℕ) (r : Decoded) (e : r ≡ decoded b n) where
-  pub head_absent : (k : Head) → said_of b (decoded b n) ≡ k → r ≡ Absent → k ≡ absent
+module _ (b : List ℕ) (n : ℕ) (r : Option Header) (e : r ≡ decoded b n) where
+  pub head_absent : (k : Head) → said_of b (decoded b n) ≡ k → r ≡ None → k ≡ absent
   head_absent k q a = sym q ∙ ap (said_of b) (sym e ∙ a)
 
-  module _ (h : Header) (a : r ≡ Found h) where
+  module _ (h : Header) (a : r ≡ Some h) where
     passed : Passed b n h
     passed = (found b n h).0 (sym e ∙ a)
 
@@ -163,7 +162,7 @@ module _ (b : List ℕ) (n : ℕ) (r : Decoded) (e : r ≡ decoded b n) where
         rw z
 
     module _ (k : Head) (q : said_of b (decoded b n) ≡ k) where
-      head_found : k ≡ said_of b (Found h)
+      head_found : k ≡ said_of b (Some h)
       head_found = sym q ∙ ap (said_of b) (sym e ∙ a)
 
       pub head_claim : true ≡ (h.in_use && ltb 0 h.path_len) → k ≡ claim (take (32 + h.path_len - 32) (drop 32 b)) h.generation h.len

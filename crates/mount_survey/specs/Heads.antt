@@ -1,7 +1,7 @@
 -- What a slot's header says to a mount, and the reading of all headers before anything else: 01, "Mount, adopt".
+use Rattle.std.specs.Prelude.{None, Option, Some}
+use Rattle.header.specs.declared.Header.{Header}
 use Rattle.std.specs.Prelude.{ℕ, zero, suc, Bool, true, false, cond, ◌&&◌, List, [], ◌∷◌, eqb, ltb, length}
-use Rattle.header.specs.declared.Decoded.{Decoded}
-use Rattle.header.specs.declared.Decoded.TheVariants.{Absent, Found}
 use Rattle.header.specs.Block.{path_of, decoded}
 use Rattle.device.specs.declared.Place.{Place}
 use Rattle.device.specs.declared.Geometry.{Geometry}
@@ -18,9 +18,9 @@ pub data Head : Type 0 where
   claim : List ℕ → ℕ → ℕ → Head
 
 -- "In use with non-empty path: a claim." The path lies in the block.
-abbrev pub said_of : List ℕ → Decoded → Head
-said_of b Absent = absent
-said_of b (Found h) = cond (h.in_use && ltb 0 h.path_len) (claim (path_of b) h.generation h.len) (idle h.generation)
+abbrev pub said_of : List ℕ → Option Header → Head
+said_of b None = absent
+said_of b (Some h) = cond (h.in_use && ltb 0 h.path_len) (claim (path_of b) h.generation h.len) (idle h.generation)
 
 -- What the bytes that a header read gave say: fewer than 512 are no header.
 unfoldable pub head_of : List ℕ → Head

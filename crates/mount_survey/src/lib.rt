@@ -13,7 +13,7 @@ ghost use Rattle.mount_survey.specs.Heads.{dev_before, head_of, looked, reads_m}
 ghost use Rattle.mount_survey.specs.Claims.{row_of, asks_for, asks, asked_of, losers_of, left, live, loser_of};
 
 use device::{Geometry, Place};
-use header::{Decoded, Header};
+use header::Header;
 use limits::{LAST_COUNTER, MAX_PATH, ROW_WIDTH};
 
 // The place after the reads, whether one failed, and what the valid headers ask of the counter.
@@ -118,7 +118,7 @@ fn stage_slot(
             asked,
         };
     }
-    let Decoded::Found(h) = Header::decode(block, got.count) else {
+    let Some(h) = Header::decode(block, got.count) else {
         return Staged {
             place: at,
             failed: false,

@@ -1,11 +1,11 @@
 -- Laws of the order of normal spellings, along a walk of both.
+use Rattle.std.specs.declared.cmp.Ordering.{Ordering}
+use Rattle.std.specs.declared.cmp.Ordering.TheVariants.{Equal, Greater, Less}
 use Rattle.std.proofs.Common.{◌≡◌, ℕ, ◌+◌, ◌-◌, ◌<◌, ◌≤◌, Bool, true, false, cond, not, eqb, ltb, ◌⊎◌, List, [], ◌∷◌, ◌++◌, length, get_or, take, drop, sym, refl, ap, ◌∙◌, subst, inl, inr, add-one, arith, drop_of_length-le, drop-cons, ltb-false, ltb-true, le-ltb, lt-ltb, eqb-true}
 use mathlib.Core.Bool.{false≢true}
 use borrow.Author.Tests.{eqb-false}
 use Rattle.lists.specs.Same.{same_bytes, same_bytes_eq, same_bytes_refl}
 use Rattle.lists.specs.Order.{and_then, cmp_nat, lex, byte_order, nat_less, nat_greater, nat_orders, equal_cases, lex_append}
-use Rattle.lists.specs.declared.Ordering.{Ordering}
-use Rattle.lists.specs.declared.Ordering.TheVariants.{Less, Equal, Greater}
 use Rattle.path.specs.Path.{is_root, slash, join, normal, path_order}
 use Rattle.path.specs.Walk.{left, Next, Free, name_order}
 use Rattle.path.proofs.Parts.{First, Formed, no_root}

@@ -1,8 +1,8 @@
 -- Laws of the parent and of the walk up through the ancestors.
+use Rattle.std.specs.Prelude.{None, Some}
 use Rattle.std.proofs.Common.{◌≡◌, ℕ, zero, suc, ◌-◌, ◌<◌, ◌≤◌, true, false, not, eqb, List, [], ◌∷◌, ◌++◌, length, get_or, take, drop, sym, refl, ap, ◌∙◌, subst, ⊎_elim, arith, length-take-le, take_all, eq-eqb, ne_eqb}
 use mathlib.Core.Bool.{false≢true}
 use Rattle.le.specs.Le.{laid}
-use Rattle.lists.specs.declared.Found.TheVariants.{At, Nothing}
 use Rattle.path.specs.Path.{components, same_path, init, is_root, has_parent, is_parent, join, normal, parent_of, parent_len, fronts, ancestors}
 use Rattle.path.specs.Walk.{Last, UpTo, parent_laid, up_from, Above}
 use Rattle.path.proofs.Parts.{AllNamed, Formed, formed, no_root}
@@ -70,7 +70,7 @@ pub parent_some : (d f : List ℕ) (e : ℕ) → UpTo f e → same_path d (take 
 unfolding is_parent same_path
 parent_some d f e u = rw (u.has, u.names)
 
-pub parent_kept : (s d : List ℕ) → has_parent (components s) ≡ false → (Nothing ≡ parent_len s) × (d ≡ parent_laid d s)
+pub parent_kept : (s d : List ℕ) → has_parent (components s) ≡ false → (None ≡ parent_len s) × (d ≡ parent_laid d s)
 unfolding parent_len parent_laid
 parent_kept s d h = (rw h, rw h)
 
@@ -81,9 +81,9 @@ up_normal s e u = ap (join false) u.names
 pub up_room : (s : List ℕ) (n e : ℕ) → UpTo s e → length (parent_of s) ≤ n → length (normal (take e s)) ≤ n
 up_room s n e u h = rw (up_normal s e u) h
 
-pub up_laid : (s d x : List ℕ) (e n : ℕ) → UpTo s e → (x ≡ laid d 0 (normal (take e s))) × (n ≡ length (normal (take e s))) → (At n ≡ parent_len s) × (x ≡ parent_laid d s)
+pub up_laid : (s d x : List ℕ) (e n : ℕ) → UpTo s e → (x ≡ laid d 0 (normal (take e s))) × (n ≡ length (normal (take e s))) → (Some n ≡ parent_len s) × (x ≡ parent_laid d s)
 unfolding parent_len parent_laid
-up_laid s d x e n u w = (rw u.has (ap At (w.1 ∙ ap length (up_normal s e u))), rw u.has (w.0 ∙ ap (laid d 0) (up_normal s e u)))
+up_laid s d x e n u w = (rw u.has (ap Some (w.1 ∙ ap length (up_normal s e u))), rw u.has (w.0 ∙ ap (laid d 0) (up_normal s e u)))
 
 -- ---- the walk up
 

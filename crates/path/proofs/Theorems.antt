@@ -1,10 +1,10 @@
 -- What holds of paths, for the crates above: equality, normal spelling, order and key.
+use Rattle.std.specs.declared.cmp.Ordering.TheVariants.{Equal}
 use Rattle.std.specs.Prelude.{◌≡◌, ℕ, suc, ◌≤◌, Bool, true, false, cond, ◌↔◌, List, [], ◌∷◌, length, ◌==◌, ◌≢◌, refl}
 use Rattle.std.proofs.Common.{sym, ap, ◌∙◌, arith}
 use Rattle.std.proofs.lemmas.Bool.{false≢true}
 use Rattle.lists.specs.Same.{same, same_bytes, same_refl, same_eq, same_bytes_refl, same_bytes_eq}
 use Rattle.lists.specs.Order.{byte_order, byte_orders, Ranks, ranks, keyed}
-use Rattle.lists.specs.declared.Ordering.TheVariants.{Equal}
 use Rattle.path.specs.Path.{components, names, split, same_path, init, has_parent, is_parent, join, normal, path_order, key_of}
 use Rattle.path.proofs.Parts.{formed, components_step, components_join, join_short}
 

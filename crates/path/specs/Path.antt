@@ -1,11 +1,10 @@
 -- Paths as Rust's std::path has them on a platform with `/`: 01, "Path equality". A path is a list of bytes; 47 is `/` and 46 is `.`.
+use Rattle.std.specs.Prelude.{None, Option, Some}
+use Rattle.std.specs.declared.cmp.Ordering.{Ordering}
 use Rattle.std.specs.Prelude.{ℕ, ◌+◌, ◌-◌, ◌*◌, ◌/◌, ◌%◌, Bool, true, false, cond, not, List, [], ◌∷◌, ◌++◌, map, length, drop, ◌==◌}
 use Rattle.le.specs.Le.{unle}
 use Rattle.lists.specs.Same.{same, same_bytes}
 use Rattle.lists.specs.Order.{byte_order}
-use Rattle.lists.specs.declared.Ordering.{Ordering}
-use Rattle.lists.specs.declared.Found.{Found}
-use Rattle.lists.specs.declared.Found.TheVariants.{At, Nothing}
 
 -- ---- components
 
@@ -90,8 +89,8 @@ unfoldable pub parent_of : List ℕ → List ℕ
 parent_of s = join false (init (components s))
 
 -- How long that is, or that there is none.
-unfoldable pub parent_len : List ℕ → Found
-parent_len s = cond (has_parent (components s)) (At (length (parent_of s))) Nothing
+unfoldable pub parent_len : List ℕ → Option ℕ
+parent_len s = cond (has_parent (components s)) (Some (length (parent_of s))) None
 
 -- ---- ancestors
 

@@ -1,11 +1,10 @@
 -- The places of a walk along a spelling: what the functions that find and compare components say of their answers.
+use Rattle.std.specs.Prelude.{None, Option, Some}
+use Rattle.std.specs.declared.cmp.Ordering.{Ordering}
+use Rattle.std.specs.declared.cmp.Ordering.TheVariants.{Equal, Greater, Less}
 use Rattle.std.specs.Prelude.{◌≡◌, ℕ, suc, ◌-◌, ◌<◌, ◌≤◌, Bool, true, false, cond, ◌⊎◌, List, [], ◌∷◌, ◌++◌, length, take, drop, ◌==◌, nat_lt, slice_index, slice_range}
 use Rattle.le.specs.Le.{laid}
 use Rattle.lists.specs.Order.{and_then, cmp_nat}
-use Rattle.lists.specs.declared.Ordering.{Ordering}
-use Rattle.lists.specs.declared.Ordering.TheVariants.{Less, Equal, Greater}
-use Rattle.lists.specs.declared.Found.{Found}
-use Rattle.lists.specs.declared.Found.TheVariants.{At, Nothing}
 use Rattle.path.specs.Path.{names, split, components, init, has_parent, normal, parent_of, ancestors}
 
 -- ---- from the front
@@ -73,9 +72,9 @@ pub record UpTo (s : List ℕ) (e : ℕ) : Type 0 where
   pub names : components (take e s) ≡ init (components s)
   pub has : has_parent (components s) ≡ true
 
-abbrev pub UpOf : List ℕ → Found → Type 0
-UpOf s Nothing = has_parent (components s) ≡ false
-UpOf s (At e) = UpTo s e
+abbrev pub UpOf : List ℕ → Option ℕ → Type 0
+UpOf s None = has_parent (components s) ≡ false
+UpOf s (Some e) = UpTo s e
 
 -- a buffer with the parent's normal spelling in front, or as it was if there is none
 unfoldable pub parent_laid : List ℕ → List ℕ → List ℕ

@@ -10,6 +10,8 @@ ghost use Rattle.path.specs.Path.{same_path, is_parent, slash, normal, parent_of
 ghost use Rattle.path.specs.Spelling.{idle_slash};
 ghost use Rattle.path.specs.Walk.{run, NextName, Next, Starts, Last, UpOf, Above, name_order, parent_laid};
 
+use std::cmp::Ordering;
+
 // A component of a path: its bytes stand from start to stop. Where the two are equal there is none.
 #[derive(Clone, Copy)]
 struct Part {
@@ -275,22 +277,22 @@ pub fn normalize(src: &[u8], dst: &mut [u8]) -> usize
 }
 
 // Where a front of the path's spelling ends that spells its parent, `Path::parent`, or that it has none.
-pub fn parent_end(s: &[u8]) -> lists::Found
+pub fn parent_end(s: &[u8]) -> Option<usize>
     ensures { UpOf s.now result }
 {
     let p = last(s);
     let a = p.start;
     let e = p.stop;
     if a == e {
-        return lists::Found::Nothing;
+        return None;
     }
     if s[a] == b'/' {
-        return lists::Found::Nothing;
+        return None;
     }
     if a <= 1 {
-        return lists::Found::At(a);
+        return Some(a);
     }
-    lists::Found::At(a - 1)
+    Some(a - 1)
 }
 
 // Whether dir spells the parent of file.
@@ -299,23 +301,23 @@ pub fn is_parent(dir: &[u8], file: &[u8]) -> bool
 {
     let up = parent_end(file);
     match up {
-        lists::Found::Nothing => false,
-        lists::Found::At(e) => same_path(dir, &file[..e]),
+        None => false,
+        Some(e) => same_path(dir, &file[..e]),
     }
 }
 
 // Writes the normal spelling of src's parent to the front of dst, and says how long it is; without a parent nothing is written.
-pub fn parent(src: &[u8], dst: &mut [u8]) -> lists::Found
+pub fn parent(src: &[u8], dst: &mut [u8]) -> Option<usize>
     requires { length (parent_of src.now) ≤ length dst.old }
     ensures long { result ≡ parent_len src.now }
     ensures laid { dst.new ≡ parent_laid dst.old src.now }
 {
     let up = parent_end(src);
     match up {
-        lists::Found::Nothing => lists::Found::Nothing,
-        lists::Found::At(e) => {
+        None => None,
+        Some(e) => {
             let n = normalize(&src[..e], dst);
-            lists::Found::At(n)
+            Some(n)
         }
     }
 }
@@ -326,13 +328,13 @@ pub fn above(s: &[u8]) -> usize
 {
     let up = parent_end(s);
     match up {
-        lists::Found::Nothing => 0,
-        lists::Found::At(e) => e,
+        None => 0,
+        Some(e) => e,
     }
 }
 
 // The order of two components that differ; more_a and more_b say whether a slash and more follow them in the normal spellings.
-fn compare_names(a: &[u8], more_a: bool, b: &[u8], more_b: bool) -> lists::Ordering
+fn compare_names(a: &[u8], more_a: bool, b: &[u8], more_b: bool) -> Ordering
     ensures { result ≡ name_order more_a a.now more_b b.now }
 {
     let mut i = 0;
@@ -340,32 +342,32 @@ fn compare_names(a: &[u8], more_a: bool, b: &[u8], more_b: bool) -> lists::Order
         if b.len() <= i {
             if more_b {
                 if a[i] < b'/' {
-                    return lists::Ordering::Less;
+                    return Ordering::Less;
                 }
             }
-            return lists::Ordering::Greater;
+            return Ordering::Greater;
         }
         if a[i] < b[i] {
-            return lists::Ordering::Less;
+            return Ordering::Less;
         }
         if b[i] < a[i] {
-            return lists::Ordering::Greater;
+            return Ordering::Greater;
         }
         i += 1;
     }
     if b.len() <= i {
-        return lists::Ordering::Equal;
+        return Ordering::Equal;
     }
     if more_a {
         if b[i] <= b'/' {
-            return lists::Ordering::Greater;
+            return Ordering::Greater;
         }
     }
-    lists::Ordering::Less
+    Ordering::Less
 }
 
 // The order of a listing, that of the bytes of both normal spellings, which are not written: the first components that differ decide.
-pub fn compare(a: &[u8], b: &[u8]) -> lists::Ordering
+pub fn compare(a: &[u8], b: &[u8]) -> Ordering
     ensures { result ≡ path_order a.now b.now }
 {
     let mut i = 0;
@@ -379,12 +381,12 @@ pub fn compare(a: &[u8], b: &[u8]) -> lists::Ordering
         let qe = q.stop;
         if ps == pe {
             if qs == qe {
-                return lists::Ordering::Equal;
+                return Ordering::Equal;
             }
-            return lists::Ordering::Less;
+            return Ordering::Less;
         }
         if qs == qe {
-            return lists::Ordering::Greater;
+            return Ordering::Greater;
         }
         if !same_bytes(&a[ps..pe], &b[qs..qe]) {
             let x = next(a, pe);

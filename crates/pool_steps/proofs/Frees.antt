@@ -1,4 +1,5 @@
 -- A header write and a release on the device, by slots: what they leave in each slot, and what the slot's header says then.
+use Rattle.std.specs.Prelude.{Some}
 use Prim.Native.Nat.{ℕ, ◌-◌, ◌+◌, ◌^◌, ◌≤◌, ◌<◌, min}
 use native.Mathlib.Omega.{arith}
 use mathlib.Core.Path.{◌≡◌, refl, sym, ap, ◌∙◌, subst}
@@ -10,7 +11,6 @@ use lib.ListN.{length, take, drop, length-append, length-take, length-drop}
 use borrow.Author.Tests.{eq-eqb, ltb-true, ltb-false}
 use Rattle.text.specs.Text.{none}
 use Rattle.text.proofs.Grammar.{text_complete}
-use Rattle.header.specs.declared.Decoded.TheVariants.{Found}
 use Rattle.header.specs.Block.{free_header, decoded}
 use Rattle.header.proofs.BlockLaws.{short_absent}
 use Rattle.header.proofs.RoundTrip.{decode_encode, cut_free_decodes}
@@ -90,29 +90,29 @@ module _ (plan : List ℕ) (g : Geometry) (i : ℕ) (d : Dev) (s : Shape g d.byt
         let q : fine_m (put_m plan g i free d) ≡ false = ap fine_m p ∙ f in
         rw q p
 
-    free_says_whole : generation < 2 ^ 64 → whole ≡ true → says g i (free_m plan g i generation d) ≡ Found (free_header generation)
+    free_says_whole : generation < 2 ^ 64 → whole ≡ true → says g i (free_m plan g i generation d) ≡ Some (free_header generation)
     free_says_whole l f =
         ap (λ (b : List ℕ). decoded b (length b)) (free_block_lem f)
         ∙ ap (decoded free) (length_free generation)
         ∙ decode_encode (free_header generation) [] (record { same_length = refl; short = lit≤ tt; len_fits = lit< tt; generation_fits = l }) (text_complete none)
 
     -- A release that was done leaves the free header,
-    pub free_says : generation < 2 ^ 64 → fine_m (free_m plan g i generation d) ≡ true → says g i (free_m plan g i generation d) ≡ Found (free_header generation)
+    pub free_says : generation < 2 ^ 64 → fine_m (free_m plan g i generation d) ≡ true → says g i (free_m plan g i generation d) ≡ Some (free_header generation)
     free_says l e = go whole refl
       where
-        go : (t : Bool) → whole ≡ t → says g i (free_m plan g i generation d) ≡ Found (free_header generation)
+        go : (t : Bool) → whole ≡ t → says g i (free_m plan g i generation d) ≡ Some (free_header generation)
         go true f = free_says_whole l f
         go false f = absurd (false≢true (sym (ap fine_m (free_stopped f) ∙ f) ∙ e))
 
     -- the first half of the free header over a block that is whole, or over one that says nothing and still does
     cut_says : generation < 2 ^ 64 → (b : List ℕ) → length b ≤ 512 → (c : List ℕ) → c ≡ take 256 free ++ drop 256 b
-        → (decoded c (length c) ≡ decoded b (length b)) ⊎ (decoded c (length c) ≡ Found (free_header generation))
+        → (decoded c (length c) ≡ decoded b (length b)) ⊎ (decoded c (length c) ≡ Some (free_header generation))
     cut_says l b h c e = go (ltb (length b) 512) refl
       where
         n : length c ≡ min 256 (length free) + (length b - 256)
         n = rw e (simp (length-append, length-take, length-drop))
 
-        go : (t : Bool) → ltb (length b) 512 ≡ t → (decoded c (length c) ≡ decoded b (length b)) ⊎ (decoded c (length c) ≡ Found (free_header generation))
+        go : (t : Bool) → ltb (length b) 512 ≡ t → (decoded c (length c) ≡ decoded b (length b)) ⊎ (decoded c (length c) ≡ Some (free_header generation))
         go true q =
             let k : length b < 512 = ltb-true (length b) 512 q in
             inl (short_absent c (length c) (omega (arith, n, length_free generation)) ∙ sym (short_absent b (length b) k))
@@ -123,16 +123,16 @@ module _ (plan : List ℕ) (g : Geometry) (i : ℕ) (d : Dev) (s : Shape g d.byt
 
     -- and one that was stopped leaves it, or the header says what it said.
     pub free_says_or_stays : generation < 2 ^ 64
-        → (says g i (free_m plan g i generation d) ≡ says g i d) ⊎ (says g i (free_m plan g i generation d) ≡ Found (free_header generation))
+        → (says g i (free_m plan g i generation d) ≡ says g i d) ⊎ (says g i (free_m plan g i generation d) ≡ Some (free_header generation))
     free_says_or_stays l = go whole refl
       where
         after : whole ≡ false → (block_of g i (header_write_m plan g i free d) ≡ block_of g i d) ⊎ (block_of g i (header_write_m plan g i free d) ≡ take 256 free ++ drop 256 (block_of g i d))
-            → (says g i (free_m plan g i generation d) ≡ says g i d) ⊎ (says g i (free_m plan g i generation d) ≡ Found (free_header generation))
+            → (says g i (free_m plan g i generation d) ≡ says g i d) ⊎ (says g i (free_m plan g i generation d) ≡ Some (free_header generation))
         after f (inl e) = inl (ap (says g i) (free_stopped f) ∙ ap (λ (b : List ℕ). decoded b (length b)) e)
         after f (inr e) =
             let n = (memory plan g).block_length d i s r in
             rw (free_stopped f) (cut_says l (block_of g i d) (omega (arith, n)) (block_of g i (header_write_m plan g i free d)) e)
 
-        go : (t : Bool) → whole ≡ t → (says g i (free_m plan g i generation d) ≡ says g i d) ⊎ (says g i (free_m plan g i generation d) ≡ Found (free_header generation))
+        go : (t : Bool) → whole ≡ t → (says g i (free_m plan g i generation d) ≡ says g i d) ⊎ (says g i (free_m plan g i generation d) ≡ Some (free_header generation))
         go true f = inr (free_says_whole l f)
         go false f = after f (put_stopped plan g i d s r free (length_free generation) f).1

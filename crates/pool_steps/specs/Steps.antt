@@ -1,7 +1,7 @@
 -- The steps that the pool's calls share, over a header written and flushed (`put_m` of crate device_lent): a release (01, "Release"), and the sync of one row (01, "sync").
+use Rattle.std.specs.Prelude.{Option}
 use Rattle.std.specs.Prelude.{ℕ, Bool, cond, List, [], length}
 use Rattle.header.specs.declared.Header.{Header}
-use Rattle.header.specs.declared.Decoded.{Decoded}
 use Rattle.header.specs.Block.{free_header, bound_header, encoded, decoded}
 use Rattle.device.specs.declared.Geometry.{Geometry}
 use Rattle.device.specs.Device.{Dev, data_truncate_m}
@@ -25,7 +25,7 @@ unfoldable pub free_m : List ℕ → Geometry → ℕ → ℕ → Dev → Dev
 free_m plan g slot generation d = and_then (put_m plan g slot (free_block generation) d) (data_truncate_m plan g slot 0)
 
 -- What a slot's header says that is read in full.
-abbrev pub says : Geometry → ℕ → Dev → Decoded
+abbrev pub says : Geometry → ℕ → Dev → Option Header
 says g i d = decoded (block_of g i d) (length (block_of g i d))
 
 -- ---- on the pool

@@ -1,5 +1,6 @@
 -- The rows of table P about the headers that a mount finds: P2, P3 and P8. The rule (`mount_rule`) carries P2 and what is unbound; that a
 -- slot which claims nothing is queued is `scan_free` of survey.
+use Rattle.std.specs.Prelude.{Option, Some}
 use Prim.Native.Nat.{ℕ, zero, suc, ◌+◌, ◌≤◌, ◌<◌, min}
 use native.Mathlib.Omega.{arith}
 use native.Mathlib.Decide.{ℕ_discrete}
@@ -14,8 +15,6 @@ use borrow.Author.Tests.{lt-ltb}
 use Rattle.lists.specs.Runs.{tab}
 use Rattle.lists.specs.Distinct.{In}
 use Rattle.header.specs.declared.Header.{Header}
-use Rattle.header.specs.declared.Decoded.{Decoded}
-use Rattle.header.specs.declared.Decoded.TheVariants.{Found}
 use Rattle.header.specs.Block.{decoded}
 use Rattle.header.specs.Block as Block
 use Rattle.path.specs.Path.{same_path}
@@ -69,7 +68,7 @@ absent_no_claim h = let z : ◌≡◌ {A = ℕ} 0 1 = cc in omega arith
 abbrev NoClaim : Head → Type 0
 NoClaim h = (p : List ℕ) (e l : ℕ) → h ≢ claim p e l
 
-module _ (b : List ℕ) (h : Header) (e : decoded b (length b) ≡ Found h) where
+module _ (b : List ℕ) (h : Header) (e : decoded b (length b) ≡ Some h) where
   found_claim : h.in_use ≡ true → 0 < h.path_len → head_of b ≡ claim (Block.path_of b) h.generation h.len
   unfolding head_of
   found_claim u l = ap (said_of b) e ∙ rw (u, lt-ltb 0 h.path_len l)
@@ -80,7 +79,7 @@ module _ (b : List ℕ) (h : Header) (e : decoded b (length b) ≡ Found h) wher
 
   pub found_wants : wants (head_of b) ≡ suc h.generation
   unfolding head_of wants
-  found_wants = ap (λ (x : Decoded). wants (said_of b x)) e ∙ go (h.in_use && ltb 0 h.path_len)
+  found_wants = ap (λ (x : Option Header). wants (said_of b x)) e ∙ go (h.in_use && ltb 0 h.path_len)
     where
       go : (t : Bool) → wants (cond t (claim (Block.path_of b) h.generation h.len) (idle h.generation)) ≡ suc h.generation
       go true = refl

@@ -1,4 +1,5 @@
 -- P6 and P7, which go by the counter that the survey came to (Surveys), what a blank device gives, and the table: all its rows together.
+use Rattle.std.specs.Prelude.{Some}
 use Prim.Native.Nat.{ℕ, suc, ◌+◌, ◌≤◌, ◌<◌, ◌^◌}
 use native.Mathlib.Omega.{arith}
 use mathlib.Core.Path.{◌≡◌, refl, sym, ap, subst, ◌∙◌}
@@ -11,7 +12,6 @@ use borrow.Author.Tests.{lt-ltb, le-ltb}
 use Rattle.limits.specs.Limits.{last_counter}
 use Rattle.lists.specs.Distinct.{In}
 use Rattle.header.specs.declared.Header.{Header}
-use Rattle.header.specs.declared.Decoded.TheVariants.{Found}
 use Rattle.path.specs.Path.{ancestors}
 use Rattle.device.proofs.Shapes.{shape_means}
 use Rattle.slot_rows.specs.Rows.{find}
@@ -87,7 +87,7 @@ module _ (m : Mounting) (R : HasRoom m) where
   counts = first_counts (g m) m.ask.plan (chosen m) m.k (device_of m.ask) R.shape R.reads R.slots.1
 
   -- the counter exceeds a valid header's generation
-  exceeds : (i : ℕ) (h : Header) → i < m.k → valid m i ≡ Found h → suc h.generation ≤ v.counter
+  exceeds : (i : ℕ) (h : Header) → i < m.k → valid m i ≡ Some h → suc h.generation ≤ v.counter
   unfolding header_at
   exceeds i h l e = omega (arith, counts.each i (omega arith) (omega arith), found_wants (block m i) h e)
 

@@ -1,12 +1,11 @@
 -- 01, "Both sides of each edge": table P, row by row in its order, each row under 01's sentence and with its other side, and at the end
 -- the table as one statement. The calls are those of `pool::call`. proofs/Table.antt proves it: `table_p`.
+use Rattle.std.specs.Prelude.{Option, Some}
 use Rattle.std.specs.Prelude.{ℕ, ◌+◌, ◌-◌, ◌≤◌, ◌<◌, ◌^◌, min, ◌≡◌, ◌≢◌, Bool, true, false, List, [], ◌∷◌, ◌++◌, length, get_or, take, drop}
 use Rattle.limits.specs.Limits.{max_path, last_counter}
 use Rattle.lists.specs.Distinct.{In}
 use Rattle.text.specs.Text.{is_text}
 use Rattle.header.specs.declared.Header.{Header}
-use Rattle.header.specs.declared.Decoded.{Decoded}
-use Rattle.header.specs.declared.Decoded.TheVariants.{Found}
 use Rattle.header.specs.Block.{path_of, decoded}
 use Rattle.path.specs.Path.{same_path, ancestors}
 use Rattle.device.specs.declared.Place.{Place}
@@ -66,7 +65,7 @@ module _ (m : Mounting) where
   abbrev pub block : ℕ → List ℕ
   block i = block_of m.ask.geometry i (device_of m.ask)
 
-  abbrev pub valid : ℕ → Decoded
+  abbrev pub valid : ℕ → Option Header
   valid i = decoded (block i) (length (block i))
 
   -- Slot i claims no path.
@@ -139,7 +138,7 @@ module _ (m : Mounting) where
 
   -- "P3 in-use header with empty path is free"; with another path, that path is found.
   unfoldable pub P3 : Type 0
-  P3 = (i : ℕ) (h : Header) → i < m.k → valid m i ≡ Found h → h.in_use ≡ true
+  P3 = (i : ℕ) (h : Header) → i < m.k → valid m i ≡ Some h → h.in_use ≡ true
       → (h.path_len ≡ 0 → Free m i) × (0 < h.path_len → FoundAt m (path_of (block m i)))
 
 -- ---- P4, P5
@@ -208,7 +207,7 @@ module _ (m : Mounting) where
   -- "P6 generation 2^63 - 1 in a valid header mounts, and a new open then gets 9": none is higher and none loses; and slot j is free for
   -- the open.
   unfoldable pub P6 : Type 0
-  P6 = (i : ℕ) (h : Header) → i < m.k → valid m i ≡ Found h → h.generation ≡ last_counter - 1
+  P6 = (i : ℕ) (h : Header) → i < m.k → valid m i ≡ Some h → h.generation ≡ last_counter - 1
       → ((j : ℕ) → j < m.k → wants (head m j) ≤ last_counter) → Apart
       → (number m.left ≡ 0)
       × ((ask : Asked) (left : Left) (j : ℕ) → NextOpen ask left → NewFile ask.first (held_before ask) → j < m.k → Claimless m j
@@ -216,7 +215,7 @@ module _ (m : Mounting) where
 
   -- "P7 2^63 gets 9 at mount", and so does every higher generation, whatever the other headers are.
   unfoldable pub P7 : Type 0
-  P7 = (i : ℕ) (h : Header) → i < m.k → valid m i ≡ Found h → last_counter ≤ h.generation → number m.left ≡ 9
+  P7 = (i : ℕ) (h : Header) → i < m.k → valid m i ≡ Some h → last_counter ≤ h.generation → number m.left ≡ 9
 
   -- ---- P8
 
@@ -226,7 +225,7 @@ module _ (m : Mounting) where
   front i = take 512 (part_of m.ask.geometry.size i m.ask.bytes)
 
   unfoldable pub P8 : Type 0
-  P8 = (i : ℕ) (h : Header) → i < m.k → decoded (front i) 512 ≡ Found h → h.in_use ≡ true → 0 < h.path_len
+  P8 = (i : ℕ) (h : Header) → i < m.k → decoded (front i) 512 ≡ Some h → h.in_use ≡ true → 0 < h.path_len
       → (phys_of i (device_of m.ask) ≡ 511 → Free m i) × (phys_of i (device_of m.ask) ≡ 512 → FoundAt m (path_of (front i)))
 
 -- ---- THE TABLE

@@ -1,4 +1,5 @@
 -- `what_was_synced_is_found`: a header that was put whole is the slot's block (`put_block`), and an encoded header decodes to itself.
+use Rattle.std.specs.Prelude.{Some}
 use Prim.Native.Nat.{ℕ, ◌^◌, ◌≤◌, ◌<◌}
 use native.Mathlib.Omega.{arith}
 use mathlib.Core.Path.{◌≡◌, refl, sym, ap, ◌∙◌}
@@ -8,7 +9,6 @@ use lib.ListN.{length}
 use borrow.Author.Tests.{eq-eqb, lt-ltb}
 use Rattle.limits.specs.Limits.{max_path}
 use Rattle.text.specs.Text.{is_text}
-use Rattle.header.specs.declared.Decoded.TheVariants.{Found}
 use Rattle.header.specs.Block.{block_len, decoded}
 use Rattle.header.specs.Block as Block
 use Rattle.header.specs.RoundTrip.{Fits}
@@ -46,7 +46,7 @@ module _ (g : Geometry) (slot : ℕ) (r : Row) (d : Dev) (block : block_of g slo
   long : length (row_block r) ≡ block_len
   long = length_encoded (row_header r) (path_of r) short
 
-  decodes : decoded (block_of g slot d) (length (block_of g slot d)) ≡ Found (row_header r)
+  decodes : decoded (block_of g slot d) (length (block_of g slot d)) ≡ Some (row_header r)
   decodes =
       ap (λ (b : List ℕ). decoded b (length b)) block ∙ ap (decoded (row_block r)) long ∙ decode_encode (row_header r) (path_of r) fits text
 

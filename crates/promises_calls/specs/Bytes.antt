@@ -1,6 +1,6 @@
 -- What was written is read, and what was synced is found.
+use Rattle.std.specs.Prelude.{Some}
 use Rattle.std.specs.Prelude.{ℕ, ◌+◌, ◌^◌, ◌≤◌, ◌<◌, ◌≡◌, ◌≢◌, ◌⊎◌, true, List, length, get_or}
-use Rattle.header.specs.declared.Decoded.TheVariants.{Found}
 use Rattle.header.specs.Block.{bound_header}
 use Rattle.header.specs.Block as Block
 use Rattle.device.specs.declared.Geometry.{Geometry}
@@ -50,7 +50,7 @@ WhatWasWrittenIsRead =
 -- The slot's header on the device is that of the row r.
 pub record Synced (g : Geometry) (slot : ℕ) (r : Row) (d : Dev) : Type 0 where
   -- "the slot's header decodes to exactly the row's path, generation and length"
-  pub decodes : says g slot d ≡ Found (bound_header (length (path_of r)) (len_of r) (gen_of r))
+  pub decodes : says g slot d ≡ Some (bound_header (length (path_of r)) (len_of r) (gen_of r))
   pub path : Block.path_of (block_of g slot d) ≡ path_of r
   -- so that a mount finds a claim of them; a header of the empty path claims nothing
   pub claims : 0 < length (path_of r) → head_of (block_of g slot d) ≡ claim (path_of r) (gen_of r) (len_of r)

@@ -1,4 +1,5 @@
 -- The statements of specs/Edges.antt, by table P: that its premises hold of these cards is computed.
+use Rattle.std.specs.Prelude.{Some}
 use Prim.Native.Nat.{ℕ, zero, suc, ◌+◌, ◌-◌, ◌*◌, ◌≤◌, ◌<◌, ◌^◌}
 use native.Mathlib.Omega.{arith}
 use mathlib.Core.Path.{◌≡◌, refl, sym, ap, subst, ◌∙◌}
@@ -14,7 +15,6 @@ use Rattle.lists.specs.Same as L
 use Rattle.fnv.specs.Fnv as F
 use Rattle.header.specs.Block.{bound_header}
 use Rattle.header.specs.Block as B
-use Rattle.header.specs.declared.Decoded.TheVariants.{Found}
 use Rattle.text.specs.Text.{is_text}
 use Rattle.text.specs.Text as T
 use Rattle.path.specs.Path.{same_path, ancestors}
@@ -101,7 +101,7 @@ module _ (y : Left) (e : Entered past y) where
   abbrev mp : Mounting
   mp = record { ask = past; k = 1; mounts = refl; left = y; made = e }
 
-  past_valid : valid mp 0 ≡ Found (bound_header 1 0 last_counter)
+  past_valid : valid mp 0 ≡ Some (bound_header 1 0 last_counter)
   unfolding W.header_at H.head_of B.decoded B.encoded B.fixed F.fnv1a F.stepped T.is_text T.walk_of T.step_of T.lead_of Sl.part_of
   past_valid = refl
 
@@ -144,7 +144,7 @@ module _ (y : Left) (e : Entered last y) where
   abbrev ml : Mounting
   ml = record { ask = last; k = 2; mounts = refl; left = y; made = e }
 
-  last_valid : valid ml 0 ≡ Found (bound_header 1 0 (last_counter - 1))
+  last_valid : valid ml 0 ≡ Some (bound_header 1 0 (last_counter - 1))
   unfolding W.header_at H.head_of B.decoded B.encoded B.fixed F.fnv1a F.stepped T.is_text T.walk_of T.step_of T.lead_of Sl.part_of
   last_valid = refl
 

@@ -1,4 +1,5 @@
 -- The loops of the order: a half of what is left is set aside at each look, and each element goes to its place among those behind it.
+use Rattle.std.specs.declared.cmp.Ordering.{Ordering}
 use Prim.Native.Nat.{ℕ, suc, ◌+◌, ◌-◌, ◌/◌, ◌%◌, ◌<◌, ◌≤◌}
 use native.Mathlib.Omega.{arith}
 use native.Mathlib.Numerals.{add-one}
@@ -8,7 +9,6 @@ use mathlib.Core.Bool.{Bool, true, false}
 use mathlib.Core.List.{List, [], ◌∷◌, ◌++◌, append_assoc, append-nil}
 use lib.ListN.{length, get_or, take, drop, length-append, length-take, length-drop, drop_of_length-le}
 use lib.Seq.{take_all, take-length, drop-length, take_at, drop_at, drop-cons, take-suc, get_or-drop, length-take-le}
-use Rattle.lists.specs.declared.Ordering.{Ordering}
 use Rattle.lists.specs.Sort.{insert, sort, is_less}
 use Rattle.path.specs.Path.{path_order}
 use Rattle.row_order.specs.Spans.{spelled, AllInside, span_before}

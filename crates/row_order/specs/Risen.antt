@@ -1,11 +1,11 @@
 -- Where an element goes in a list that is in order, and that the insertion sort puts it there.
+use Rattle.std.specs.declared.cmp.Ordering.{Ordering}
+use Rattle.std.specs.declared.cmp.Ordering.TheVariants.{Equal, Greater, Less}
 use Rattle.std.specs.Prelude.{ℕ, zero, suc, ◌<◌, ◌≤◌, ◌≡◌, Bool, cond, length, get_or, take, drop}
 use Rattle.std.proofs.Common.{arith, ap, ◌∙◌}
 use Rattle.std.proofs.Math.Path.{refl}
 use Rattle.std.proofs.Math.Bool.{true, false}
 use mathlib.Core.List.{List, [], ◌∷◌, ◌++◌}
-use Rattle.lists.specs.declared.Ordering.{Ordering}
-use Rattle.lists.specs.declared.Ordering.TheVariants.{Less, Equal, Greater}
 use Rattle.lists.specs.Order.{Orders, flip}
 use Rattle.lists.specs.Sort.{insert, sort, All, all_map, all_insert, by, is_less}
 

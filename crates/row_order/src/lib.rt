@@ -13,6 +13,7 @@ ghost use Rattle.row_order.specs.Spans.{span, span_before, SpanInside, AllInside
 ghost use Rattle.row_order.specs.Risen.{Risen, place};
 
 use limits::{DIR_WIDTH, MAX_PATH};
+use std::cmp::Ordering;
 
 // The part of a buffer that starts at a place and has a length, as one number.
 pub fn span(start: usize, len: usize) -> u32
@@ -33,9 +34,9 @@ fn comes_before(bytes: &[u8], x: u32, y: u32) -> bool
     let n = (y % 512) as usize;
     let way = path::compare(&bytes[a..a + m], &bytes[b..b + n]);
     match way {
-        lists::Ordering::Less => true,
-        lists::Ordering::Equal => false,
-        lists::Ordering::Greater => false,
+        Ordering::Less => true,
+        Ordering::Equal => false,
+        Ordering::Greater => false,
     }
 }
 

@@ -1,4 +1,5 @@
 -- The ways out of what answers a request: one law for each, from the tests that were passed to what is answered.
+use Rattle.std.specs.Prelude.{None, Option, Some}
 use Prim.Native.Nat.{ℕ, ◌+◌, ◌-◌, ◌<◌, ◌≤◌}
 use mathlib.Core.Path.{◌≡◌, refl, sym, ap, ap₂, ◌∙◌}
 use mathlib.Core.Bool.{Bool, true, false, cond}
@@ -9,8 +10,6 @@ use borrow.Author.Tests.{lt-ltb, le-ltb, eq-eqb, ne_eqb, ltb-false}
 use lib.ListN.{length, take, drop, get_or, replicate, length-append, length-take, length-drop}
 use lib.Seq.{take_all, take-length}
 use lib.Dec.{ltb, eqb}
-use Rattle.lists.specs.declared.Found.{Found}
-use Rattle.lists.specs.declared.Found.TheVariants.{At, Nothing}
 use Rattle.le.specs.Le.{le, field, laid}
 use Rattle.le.proofs.Fields.{length_le}
 use Rattle.le.proofs.Parts.{length_mid, mid_back, copy_back, laid_nothing, laid_front, laid_before, length_laid}
@@ -22,39 +21,39 @@ use Rattle.served.specs.Answers.{Bounded, export_bounded, length_answer, answers
 -- ---- what is lent
 
 module _ (n : ℕ) (body : List ℕ) where
-  pub plain_short : length body < n → Nothing ≡ plain_in n body
+  pub plain_short : length body < n → None ≡ plain_in n body
   unfolding plain_in
   plain_short h = rw (lt-ltb (length body) n h)
 
-  pub plain_whole : n ≤ length body → At 0 ≡ plain_in n body
+  pub plain_whole : n ≤ length body → Some 0 ≡ plain_in n body
   unfolding plain_in
   plain_whole h = rw (le-ltb (length body) n h)
 
 module _ (at : ℕ) (body : List ℕ) where
-  pub lent_short : length body < at + 4 → Nothing ≡ lent_in at body
+  pub lent_short : length body < at + 4 → None ≡ lent_in at body
   unfolding lent_in
   lent_short h = rw (lt-ltb (length body) (at + 4) h)
 
   module _ {n : ℕ} (h : at + 4 ≤ length body) (e : n ≡ field body at 4) where
-    pub lent_large : most_lent < n → Nothing ≡ lent_in at body
+    pub lent_large : most_lent < n → None ≡ lent_in at body
     unfolding lent_in
     lent_large l = rw (le-ltb (length body) (at + 4) h, lt-ltb most_lent (field body at 4) (rw e at l))
 
-    pub lent_whole : n ≤ most_lent → At n ≡ lent_in at body
+    pub lent_whole : n ≤ most_lent → Some n ≡ lent_in at body
     unfolding lent_in
-    lent_whole l = ap At e ∙ rw (le-ltb (length body) (at + 4) h, le-ltb most_lent (field body at 4) (rw e at l))
+    lent_whole l = ap Some e ∙ rw (le-ltb (length body) (at + 4) h, le-ltb most_lent (field body at 4) (rw e at l))
 
 module _ (body : List ℕ) where
-  pub two_short : length body < 4 → Nothing ≡ two_in body
+  pub two_short : length body < 4 → None ≡ two_in body
   unfolding two_in
   two_short h = rw (lt-ltb (length body) 4 h)
 
   module _ {n : ℕ} (h : 4 ≤ length body) (e : n ≡ field body 0 4) where
-    pub two_cut : length body - 4 < n → Nothing ≡ two_in body
+    pub two_cut : length body - 4 < n → None ≡ two_in body
     unfolding two_in
     two_cut l = rw (le-ltb (length body) 4 h, lt-ltb (length body - 4) (field body 0 4) (rw e at l))
 
-    pub two_whole : n ≤ length body - 4 → At 0 ≡ two_in body
+    pub two_whole : n ≤ length body - 4 → Some 0 ≡ two_in body
     unfolding two_in
     two_whole l = rw (le-ltb (length body) 4 h, le-ltb (length body - 4) (field body 0 4) (rw e at l))
 
@@ -68,30 +67,30 @@ no_export call a b c d e f g h =
 
 -- ---- a body that is whole is long enough
 
-none : {n : ℕ} → Nothing ≡ At n → ⊥
+none : {n : ℕ} → None ≡ Some n → ⊥
 none e = let z : ◌≡◌ {A = ℕ} 0 1 = cc in omega arith
 
 -- a test that was passed, from what it gave
-passed : (a b : ℕ) (x : Found) {n : ℕ} → cond (ltb a b) Nothing x ≡ At n → b ≤ a
+passed : (a b : ℕ) (x : Option ℕ) {n : ℕ} → cond (ltb a b) None x ≡ Some n → b ≤ a
 passed a b x {n} e = go (ltb a b) refl e
   where
-    go : (t : Bool) → ltb a b ≡ t → cond t Nothing x ≡ At n → b ≤ a
+    go : (t : Bool) → ltb a b ≡ t → cond t None x ≡ Some n → b ≤ a
     go true f e = absurd (none e)
     go false f e = ltb-false a b f
 
-pub plain_long : (k : ℕ) (body : List ℕ) {n : ℕ} → plain_in k body ≡ At n → k ≤ length body
+pub plain_long : (k : ℕ) (body : List ℕ) {n : ℕ} → plain_in k body ≡ Some n → k ≤ length body
 unfolding plain_in
-plain_long k body e = passed (length body) k (At 0) e
+plain_long k body e = passed (length body) k (Some 0) e
 
-pub lent_long : (at : ℕ) (body : List ℕ) {n : ℕ} → lent_in at body ≡ At n → at + 4 ≤ length body
+pub lent_long : (at : ℕ) (body : List ℕ) {n : ℕ} → lent_in at body ≡ Some n → at + 4 ≤ length body
 unfolding lent_in
 lent_long at body e = passed (length body) (at + 4) _ e
 
-pub two_long : (body : List ℕ) {n : ℕ} → two_in body ≡ At n → 4 + field body 0 4 ≤ length body
+pub two_long : (body : List ℕ) {n : ℕ} → two_in body ≡ Some n → 4 + field body 0 4 ≤ length body
 unfolding two_in
 two_long body e =
     let h : 4 ≤ length body = passed (length body) 4 _ e in
-    let l : field body 0 4 ≤ length body - 4 = passed (length body - 4) (field body 0 4) (At 0) (rw (le-ltb (length body) 4 h) at e) in
+    let l : field body 0 4 ≤ length body - 4 = passed (length body - 4) (field body 0 4) (Some 0) (rw (le-ltb (length body) 4 h) at e) in
     omega arith
 
 -- ---- bodies taken apart
@@ -140,20 +139,20 @@ module _ (request out : List ℕ) where
     abbrev pub body : List ℕ
     body = take (length request - 1) (drop 1 request)
 
-    answer_is : {f : Found} → f ≡ x.lends body → answer_to request ≡ answer_for x (drop 1 request) f
+    answer_is : {f : Option ℕ} → f ≡ x.lends body → answer_to request ≡ answer_for x (drop 1 request) f
     unfolding answer_to
     answer_is e =
         rw (ne_eqb (length request) 0 h)
         (ap (answer_for x (drop 1 request)) (sym (e ∙ ap x.lends (from_on 1 request))))
 
-    pub not_whole : {f : Found} → f ≡ x.lends body → f ≡ Nothing → outcome 0 out ≡ answered request out
+    pub not_whole : {f : Option ℕ} → f ≡ x.lends body → f ≡ None → outcome 0 out ≡ answered request out
     not_whole e g = empty_answer (answer_is (sym g ∙ e))
 
-    module _ {f : Found} {n w : ℕ} (e : f ≡ x.lends body) (g : f ≡ At n) (v : w ≡ x.width) where
+    module _ {f : Option ℕ} {n w : ℕ} (e : f ≡ x.lends body) (g : f ≡ Some n) (v : w ≡ x.width) where
       bounded : Bounded x
       bounded = export_bounded (get_or request 0 0)
 
-      answer_of_lem : answer_to request ≡ answer_for x (drop 1 request) (At n)
+      answer_of_lem : answer_to request ≡ answer_for x (drop 1 request) (Some n)
       answer_of_lem = answer_is (sym g ∙ e)
 
       long : length (answer_to request) ≡ w + n
@@ -166,8 +165,8 @@ module _ (request out : List ℕ) where
       no_room l = crowded_answer (omega (arith, long))
 
       module _ (l : w + n ≤ length out) where
-        pub lent_part : x.lends body ≡ At (length (take (w + n - w) (drop w out)))
-        lent_part = sym e ∙ g ∙ ap At (sym (length_mid w n out l))
+        pub lent_part : x.lends body ≡ Some (length (take (w + n - w) (drop w out)))
+        lent_part = sym e ∙ g ∙ ap Some (sym (length_mid w n out l))
 
         pub whole_answer : {r : ℕ} {ys o : List ℕ} → outcome r ys ≡ x.comes body (replicate (length (take (w + n - w) (drop w out))) 170)
             → o ≡ laid (take w out ++ (ys ++ drop (w + n - w) (drop w out))) 0 (le w r) → outcome (w + n) o ≡ answered request out

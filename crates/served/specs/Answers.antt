@@ -1,9 +1,8 @@
 -- What holds of every answer: how long it is, so that a buffer of 1 MiB has room for each.
+use Rattle.std.specs.Prelude.{None, Option, Some}
 use Rattle.std.specs.Prelude.{ℕ, ◌+◌, ◌-◌, ◌≤◌, ◌≡◌, refl, Bool, true, false, cond, not, List, [], ◌++◌, length, take, drop, get_or, replicate, eqb, ltb}
 use Rattle.std.proofs.Common.{ap₂, subst, ◌∙◌, arith, le-ltb, ltb-false, length-append, length-take, length-drop, lit≤}
 use Rattle.std.proofs.lemmas.List.{length-replicate}
-use Rattle.lists.specs.declared.Found.{Found}
-use Rattle.lists.specs.declared.Found.TheVariants.{At, Nothing}
 use Rattle.le.specs.Le.{le, field, laid}
 use Rattle.le.proofs.Fields.{length_le}
 use Rattle.le.proofs.Parts.{length_laid}
@@ -11,8 +10,6 @@ use Rattle.text.specs.Text.{is_text}
 use Rattle.path.specs.Path.{components, has_parent, normal, parent_of}
 use Rattle.header.specs.Block.{block_len, max_path, header_of, encoded, decoded}
 use Rattle.header.specs.declared.Header.{Header}
-use Rattle.header.specs.declared.Decoded.{Decoded}
-use Rattle.header.specs.declared.Decoded.TheVariants.{Absent, Found as Head}
 use Rattle.header.proofs.BlockLaws.{length_encoded}
 use Rattle.output.specs.Writer.{poured}
 use Rattle.script.specs.Script.{script_m}
@@ -69,9 +66,9 @@ decode_keeps : (block out : List ℕ) → SameLength out (decode_call block out)
 unfolding decode_call
 decode_keeps block out = go (decoded (take block_len block) (length block))
   where
-    go : (d : Decoded) → SameLength out (cond (ltb (length out) 32) (outcome 13 out) (said_of out d))
-    go Absent = either out (ltb (length out) 32) (stays 13 out) (stays 1 out)
-    go (Head h) = over out (numbers_of h) 0 32 (outcome 13 out) (stays 13 out) (omega (arith, length_numbers h))
+    go : (d : Option Header) → SameLength out (cond (ltb (length out) 32) (outcome 13 out) (said_of out d))
+    go None = either out (ltb (length out) 32) (stays 13 out) (stays 1 out)
+    go (Some h) = over out (numbers_of h) 0 32 (outcome 13 out) (stays 13 out) (omega (arith, length_numbers h))
 
 spelled_keeps : (s out : List ℕ) → SameLength out (spelled s out)
 unfolding spelled
@@ -98,40 +95,40 @@ script_keeps script out =
 -- A row is as the table's columns are: a number of at most 8 bytes, no more lent than the limit, and of the same length afterwards.
 pub record Bounded (x : Export) : Type 0 where
   pub narrow : x.width ≤ 8
-  pub few : (body : List ℕ) (n : ℕ) → x.lends body ≡ At n → n ≤ most_lent
+  pub few : (body : List ℕ) (n : ℕ) → x.lends body ≡ Some n → n ≤ most_lent
   pub keeps : (body out : List ℕ) → SameLength out (x.comes body out)
 
 -- what is lent, where something is
-abbrev number : Found → ℕ
-number Nothing = 0
-number (At n) = n
+abbrev number : Option ℕ → ℕ
+number None = 0
+number (Some n) = n
 
 -- nothing, or at most so much
-few_if : (t : Bool) (x : Found) → number x ≤ most_lent → number (cond t Nothing x) ≤ most_lent
+few_if : (t : Bool) (x : Option ℕ) → number x ≤ most_lent → number (cond t None x) ≤ most_lent
 few_if true x h = lit≤ tt
 few_if false x h = h
 
 -- what each of the three ways of a body lends
 few_plain : (k : ℕ) (body : List ℕ) → number (plain_in k body) ≤ most_lent
 unfolding plain_in
-few_plain k body = few_if (ltb (length body) k) (At 0) (omega arith)
+few_plain k body = few_if (ltb (length body) k) (Some 0) (omega arith)
 
 few_lent : (at : ℕ) (body : List ℕ) → number (lent_in at body) ≤ most_lent
 unfolding lent_in
 few_lent at body = few_if (ltb (length body) (at + 4)) _ (go (ltb most_lent (field body at 4)) refl)
   where
-    go : (t : Bool) → ltb most_lent (field body at 4) ≡ t → number (cond t Nothing (At (field body at 4))) ≤ most_lent
+    go : (t : Bool) → ltb most_lent (field body at 4) ≡ t → number (cond t None (Some (field body at 4))) ≤ most_lent
     go true f = lit≤ tt
     go false f = ltb-false most_lent (field body at 4) f
 
 few_two : (body : List ℕ) → number (two_in body) ≤ most_lent
 unfolding two_in
-few_two body = few_if (ltb (length body) 4) _ (few_if (ltb (length body - 4) (field body 0 4)) (At 0) (omega arith))
+few_two body = few_if (ltb (length body) 4) _ (few_if (ltb (length body - 4) (field body 0 4)) (Some 0) (omega arith))
 
 -- a row, column by column
 row : (x : Export) → x.width ≤ 8 → ((body : List ℕ) → number (x.lends body) ≤ most_lent)
     → ((body out : List ℕ) → SameLength out (x.comes body out)) → Bounded x
-row x w f k = record { narrow = w; few = λ body n e. subst (λ (y : Found). number y ≤ most_lent) e (f body); keeps = k }
+row x w f k = record { narrow = w; few = λ body n e. subst (λ (y : Option ℕ). number y ≤ most_lent) e (f body); keeps = k }
 
 -- of both rows, so of the one that is taken
 either_row : (t : Bool) {x y : Export} → Bounded x → Bounded y → Bounded (cond t x y)
@@ -155,7 +152,7 @@ export_bounded call =
 -- ---- answers
 
 -- An answer is the number and what was lent.
-pub length_answer : (x : Export) → Bounded x → (body : List ℕ) (n : ℕ) → length (answer_for x body (At n)) ≡ x.width + n
+pub length_answer : (x : Export) → Bounded x → (body : List ℕ) (n : ℕ) → length (answer_for x body (Some n)) ≡ x.width + n
 length_answer x b body n =
     length-append (le x.width _) _
     ∙ ap₂ (λ (i j : ℕ). i + j) (length_le x.width _) ((b.keeps body (replicate n 170)).same ∙ length-replicate {A = ℕ} n 170)
@@ -171,9 +168,9 @@ answers_short request = go (eqb (length request) 0)
     b : Bounded x
     b = export_bounded (get_or request 0 0)
 
-    of : (f : Found) → x.lends (drop 1 request) ≡ f → length (answer_for x (drop 1 request) f) ≤ 8 + most_lent
-    of Nothing e = omega arith
-    of (At n) e = omega (arith, length_answer x b (drop 1 request) n, b.narrow, b.few (drop 1 request) n e)
+    of : (f : Option ℕ) → x.lends (drop 1 request) ≡ f → length (answer_for x (drop 1 request) f) ≤ 8 + most_lent
+    of None e = omega arith
+    of (Some n) e = omega (arith, length_answer x b (drop 1 request) n, b.narrow, b.few (drop 1 request) n e)
 
     go : (t : Bool) → length (cond t [] (answer_for x (drop 1 request) (x.lends (drop 1 request)))) ≤ 8 + most_lent
     go true = omega arith

@@ -1,7 +1,6 @@
 -- Requests for the exported calls, and their answers: docs/EXPORTS.md, "Requests".
+use Rattle.std.specs.Prelude.{None, Option, Some}
 use Rattle.std.specs.Prelude.{ℕ, ◌+◌, ◌-◌, cond, ◌≡◌, refl, List, [], ◌∷◌, ◌++◌, length, take, drop, get_or, replicate, eqb, ltb}
-use Rattle.lists.specs.declared.Found.{Found}
-use Rattle.lists.specs.declared.Found.TheVariants.{At, Nothing}
 use Rattle.fnv.specs.Fnv.{fnv_from}
 use Rattle.le.specs.Le.{le, field, laid}
 use Rattle.output.specs.Writer.{poured}
@@ -10,32 +9,32 @@ use Rattle.harness.specs.Calls.{Outcome, outcome, encode_call, decode_call, text
 
 -- ---- what a call is lent, if its body is whole
 
--- Nothing, behind n bytes of numbers.
-unfoldable pub plain_in : ℕ → List ℕ → Found
-plain_in n body = cond (ltb (length body) n) Nothing (At 0)
+-- None, behind n bytes of numbers.
+unfoldable pub plain_in : ℕ → List ℕ → Option ℕ
+plain_in n body = cond (ltb (length body) n) None (Some 0)
 
 -- "o at most 2^20 - 64".
 abbrev pub most_lent : ℕ
 most_lent = 0xFFFC0
 
 -- As many bytes as "u32 o" at a place says.
-unfoldable pub lent_in : ℕ → List ℕ → Found
-lent_in at body = cond (ltb (length body) (at + 4)) Nothing (cond (ltb most_lent (field body at 4)) Nothing (At (field body at 4)))
+unfoldable pub lent_in : ℕ → List ℕ → Option ℕ
+lent_in at body = cond (ltb (length body) (at + 4)) None (cond (ltb most_lent (field body at 4)) None (Some (field body at 4)))
 
--- Nothing, of "u32 length of a, a, b".
-unfoldable pub two_in : List ℕ → Found
-two_in body = cond (ltb (length body) 4) Nothing (cond (ltb (length body - 4) (field body 0 4)) Nothing (At 0))
+-- None, of "u32 length of a, a, b".
+unfoldable pub two_in : List ℕ → Option ℕ
+two_in body = cond (ltb (length body) 4) None (cond (ltb (length body - 4) (field body 0 4)) None (Some 0))
 
 -- ---- the table
 
 -- How a call is asked and answered: how many bytes its answer has, what it is lent where the body is whole, and what it then comes to.
 pub record Export : Type 0 where
   pub width : ℕ
-  pub lends : List ℕ → Found
+  pub lends : List ℕ → Option ℕ
   pub comes : List ℕ → List ℕ → Outcome
 
 -- A row from its columns.
-abbrev pub exported : ℕ → (List ℕ → Found) → (List ℕ → List ℕ → Outcome) → Export
+abbrev pub exported : ℕ → (List ℕ → Option ℕ) → (List ℕ → List ℕ → Outcome) → Export
 exported w l c = record { width = w; lends = l; comes = c }
 
 -- slot_check: "u32 start, bytes".
@@ -65,7 +64,7 @@ export_of call =
     (cond (eqb call 6) (exported 8 (lent_in 0) (λ body. normal_call (drop 4 body)))
     (cond (eqb call 7) (exported 8 (lent_in 0) (λ body. parent_call (drop 4 body)))
     (cond (eqb call 8) (exported 8 (lent_in 0) (λ body. script_of (drop 4 body)))
-    (exported 0 (λ body. Nothing) (λ body. outcome 0)))))))))
+    (exported 0 (λ body. None) (λ body. outcome 0)))))))))
 
 -- ---- answers
 
@@ -74,9 +73,9 @@ abbrev pub written : ℕ → Outcome → List ℕ
 written w c = le w c.answer ++ c.out
 
 -- The answer of a call to a body, for each case of what it is lent: all bytes 0xAA before the call.
-abbrev pub answer_for : Export → List ℕ → Found → List ℕ
-answer_for x body Nothing = []
-answer_for x body (At n) = written x.width (x.comes body (replicate n 170))
+abbrev pub answer_for : Export → List ℕ → Option ℕ → List ℕ
+answer_for x body None = []
+answer_for x body (Some n) = written x.width (x.comes body (replicate n 170))
 
 -- "A request with an unknown call, a body too short for its numbers, or an o above the limit gets the empty answer."
 unfoldable pub answer_to : List ℕ → List ℕ
@@ -121,10 +120,10 @@ unfolding answer_to export_of lent_in
 cut_off = refl
 
 -- The largest buffer, and one byte more.
-largest : lent_in 0 (0xC0 ∷ 0xFF ∷ 0x0F ∷ 0 ∷ []) ≡ At most_lent
+largest : lent_in 0 (0xC0 ∷ 0xFF ∷ 0x0F ∷ 0 ∷ []) ≡ Some most_lent
 unfolding lent_in
 largest = refl
 
-too_large : lent_in 0 (0xC1 ∷ 0xFF ∷ 0x0F ∷ 0 ∷ []) ≡ Nothing
+too_large : lent_in 0 (0xC1 ∷ 0xFF ∷ 0x0F ∷ 0 ∷ []) ≡ None
 unfolding lent_in
 too_large = refl

@@ -6,12 +6,10 @@
 #![tactic(auto)]
 
 ghost use Rattle.std.specs.Prelude.{◌≡◌, ◌+◌, ◌≤◌, length, replicate};
-ghost use Rattle.lists.specs.declared.Found.TheVariants.{At};
 ghost use Rattle.le.specs.Le.{field};
 ghost use Rattle.harness.specs.Calls.{outcome};
 ghost use Rattle.served.specs.Requests.{plain_in, lent_in, two_in, check_of, encode_of, same_of, export_of, answered, framed};
 
-use lists::Found;
 
 // The most bytes that a call is lent: with all that stands before them an answer stays in 1 MiB.
 const MOST_LENT: usize = 0xF_FFC0;
@@ -37,7 +35,7 @@ fn bare_answer(request: &[u8], out: &mut [u8]) -> usize
         return 0;
     }
     let call = request[0];
-    let Found::At(n) = lends(call, &request[1..]) else {
+    let Some(n) = lends(call, &request[1..]) else {
         return 0;
     };
     let width = width_of(call);
@@ -68,7 +66,7 @@ fn width_of(call: u8) -> usize
 }
 
 // How many bytes a call is lent, where its body is whole.
-fn lends(call: u8, body: &[u8]) -> Found
+fn lends(call: u8, body: &[u8]) -> Option<usize>
     ensures { result ≡ (export_of call).lends body.now }
 {
     match call {
@@ -80,47 +78,47 @@ fn lends(call: u8, body: &[u8]) -> Found
         6 => lent_at(body, 0),
         7 => lent_at(body, 0),
         8 => lent_at(body, 0),
-        _ => Found::Nothing,
+        _ => None,
     }
 }
 
 // None, of a body with n bytes of numbers.
-fn plain(body: &[u8], n: usize) -> Found
+fn plain(body: &[u8], n: usize) -> Option<usize>
     ensures { result ≡ plain_in n body.now }
 {
     if body.len() < n {
-        return Found::Nothing;
+        return None;
     }
-    Found::At(0)
+    Some(0)
 }
 
 // As many as the u32 at a place says.
-fn lent_at(body: &[u8], at: usize) -> Found
+fn lent_at(body: &[u8], at: usize) -> Option<usize>
     requires { at ≤ 17 }
     ensures { result ≡ lent_in at body.now }
 {
     if body.len() < at + 4 {
-        return Found::Nothing;
+        return None;
     }
     let n = le::get_at(body, at, 4) as usize;
     if MOST_LENT < n {
-        return Found::Nothing;
+        return None;
     }
-    Found::At(n)
+    Some(n)
 }
 
 // None, of a body with two runs of bytes, the length of the first before it.
-fn two(body: &[u8]) -> Found
+fn two(body: &[u8]) -> Option<usize>
     ensures { result ≡ two_in body.now }
 {
     if body.len() < 4 {
-        return Found::Nothing;
+        return None;
     }
     let n = le::get_at(body, 0, 4) as usize;
     if body.len() - 4 < n {
-        return Found::Nothing;
+        return None;
     }
-    Found::At(0)
+    Some(0)
 }
 
 // Makes a call, whose body is whole, with a buffer of 0xAA.

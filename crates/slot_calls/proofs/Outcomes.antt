@@ -1,4 +1,5 @@
 -- The statements of specs/SlotOutcomes.antt: what a refusal leaves, what was written is read, and what was synced is decoded.
+use Rattle.std.specs.Prelude.{Some}
 use Prim.Native.Nat.{ℕ, ◌+◌, ◌≤◌, ◌<◌}
 use native.Mathlib.Omega.{arith}
 use mathlib.Core.Path.{◌≡◌, refl, sym, ap, ◌∙◌}
@@ -9,7 +10,6 @@ use borrow.Author.Tests.{eq-eqb, eqb-true}
 use lib.Dec.{eqb, ltb}
 use lib.ListN.{length, take}
 use Rattle.le.proofs.Parts.{laid_whole}
-use Rattle.header.specs.declared.Decoded.TheVariants.{Found}
 use Rattle.header.specs.Block.{block_len, encoded, path_of, decoded}
 use Rattle.header.specs.RoundTrip.{Fits}
 use Rattle.header.proofs.BlockLaws.{length_encoded}
@@ -245,7 +245,7 @@ synced_decodes plan g slot in_use path len generation into d w e ln gn z l c =
     let o : length ys ≡ 512 = length_encoded h path p.short in
     let q = was_written plan g slot d path ys p o x.fine in
     let r = looks plan g slot d path ys p o into w x.is_made q l c in
-    let dec : decoded ys block_len ≡ Found h = decode_encode h path f p.text in
+    let dec : decoded ys block_len ≡ Some h = decode_encode h path f p.text in
     record {
       header = ap (λ (y : Read). decoded y.dst y.got.count) r ∙ ap (decoded ys) o ∙ dec;
       path_bytes = ap (λ (y : Read). path_of y.dst) r ∙ encoded_path h path f p.text;

@@ -1,8 +1,8 @@
 -- What holds of the slot calls, as statements. proofs/Outcomes.antt proves each under its name: `read_refused_stays`,
 -- `write_refused_stays`, `sync_refused_stays`, `flush_refused_stays`, `truncate_refused_stays`, `read_back`, `synced_decodes`. That any
 -- two ends which a contract allows are the same is said of the contracts themselves, in crate promises_tied.
+use Rattle.std.specs.Prelude.{Some}
 use Rattle.std.specs.Prelude.{ℕ, ◌^◌, ◌<◌, ◌≡◌, ◌⊎◌, false, List, length}
-use Rattle.header.specs.declared.Decoded.TheVariants.{Found}
 use Rattle.header.specs.Block.{block_len, path_of, decoded}
 use Rattle.device.specs.declared.Geometry.{Geometry}
 use Rattle.device.specs.Device.{Dev, dev, Read, turn, stops, seen, header_read_m}
@@ -52,7 +52,7 @@ ReadBack =
 
 -- What a header read says: the header h with this path.
 pub record SaysHeader (r : Read) (in_use : ℕ) (path : List ℕ) (len generation : ℕ) : Type 0 where
-  pub header : decoded r.dst r.got.count ≡ Found (synced_header in_use path len generation)
+  pub header : decoded r.dst r.got.count ≡ Some (synced_header in_use path len generation)
   pub path_bytes : path_of r.dst ≡ path
 
 -- "what `sync_slot` wrote is what a header read decodes, where the plan leaves both alone". One way: "other flag bits and a tail are not

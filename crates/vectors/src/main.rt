@@ -6,7 +6,7 @@
 
 ghost use Rattle.std.specs.Prelude.{◌≤◌};
 
-use header::{Decoded, Header};
+use header::Header;
 
 // Standard output's number at the C library.
 const STDOUT_FILENO: i32 = 1;
@@ -85,7 +85,7 @@ fn flags() {
 // The longest path: a/b and zeros, which are text, up to the block's end.
 fn longest() {
     let h = Header::decode(changed(8, 480, 0x9e70_70a4), 512);
-    let Decoded::Found(h) = h else {
+    let Some(h) = h else {
         say(b"path length 480: differs: absent\n");
         return;
     };
@@ -144,8 +144,8 @@ fn begun(last: u8) -> [u8; 512] {
 fn says(block: [u8; 512]) -> u64 {
     let d = Header::decode(block, 512);
     match d {
-        Decoded::Absent => 0,
-        Decoded::Found(h) => 1,
+        None => 0,
+        Some(h) => 1,
     }
 }
 
@@ -173,15 +173,15 @@ fn absent(name: &[u8], block: [u8; 512], n: usize) {
     let d = Header::decode(block, n);
     say(name);
     match d {
-        Decoded::Absent => say(b": ok\n"),
-        Decoded::Found(h) => say(b": differs: a header was found\n"),
+        None => say(b": ok\n"),
+        Some(h) => say(b": differs: a header was found\n"),
     }
 }
 
 // A block that must say the numbers of `header_of(b"a/b")`, but for in use.
 fn answer(name: &[u8], block: [u8; 512], in_use: u64) {
     say(name);
-    let Decoded::Found(h) = Header::decode(block, 512) else {
+    let Some(h) = Header::decode(block, 512) else {
         say(b": differs: absent\n");
         return;
     };

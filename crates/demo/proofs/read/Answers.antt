@@ -9,14 +9,14 @@ returns-in_default c =
 
 pub returns-then-not-h : goal.returns-then-not-h
 returns-then-not-h c =
-    says_unused c.args.block c.decode.ensures _ c.in-Found.is c.if-not-h.true
+    says_unused c.args.block c.decode.ensures _ c.in-Some.is c.if-not-h.true
 
 pub returns-then-h-eq0 : goal.returns-then-h-eq0
 returns-then-h-eq0 c =
-    says_nameless c.args.block c.decode.ensures _ c.in-Found.is
+    says_nameless c.args.block c.decode.ensures _ c.in-Some.is
     c.if-not-h.false (eq-eqb _ 0 c.if-h-eq0.true)
 
 pub returns : goal.returns
 returns c =
-    says_claim c.args.block c.decode.ensures _ c.in-Found.is
+    says_claim c.args.block c.decode.ensures _ c.in-Some.is
     c.if-not-h.false (ne_eqb _ 0 c.if-h-eq0.false)

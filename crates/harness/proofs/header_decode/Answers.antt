@@ -30,5 +30,5 @@ pub returns : goal.returns
 returns c =
     let a = c.args in
     ap (outcome 0) c.put_numbers.ensures
-    ∙ ap (said_of a.out.now) (c.in-Found.ensures ∙ whole _ _ _ c.copy_from_slice.ensures.after)
+    ∙ ap (said_of a.out.now) (c.in-Some.ensures ∙ whole _ _ _ c.copy_from_slice.ensures.after)
     ∙ decode_says a.block.now a.out.now c.if-out-lt32.false

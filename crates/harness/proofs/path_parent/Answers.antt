@@ -16,9 +16,9 @@ returns-in_default c =
 
 pub slice_bounds-spell-end : goal.slice_bounds-spell-end
 slice_bounds-spell-end c =
-    sym (length-take-le _ _ c.in-At.ensures.inside)
+    sym (length-take-le _ _ c.in-Some.ensures.inside)
 
 pub returns : goal.returns
 returns c =
     let a = c.args in
-    c.spell.ensures ∙ parent_text a.path.now a.out.now (told c.is_text.ensures c.if-not-is_text.false) _ c.in-At.ensures
+    c.spell.ensures ∙ parent_text a.path.now a.out.now (told c.is_text.ensures c.if-not-is_text.false) _ c.in-Some.ensures

@@ -1,53 +1,31 @@
--- The invariant: what is to be compared is what is left of both from `i` on.
-use Rattle.std.proofs.Common.{◌≡◌, ℕ, ◌+◌, ◌<◌, ◌≤◌, List, length, get_or, drop, sym, refl, ◌∙◌, add-one, arith, drop_of_length-le, drop-cons}
-use Rattle.lists.specs.Order.{lex, cmp_nat, byte_order, and_then, nat_less, nat_greater, nat_same}
-use Rattle.lists.specs.declared.Ordering.TheVariants.{Less, Equal, Greater}
+-- `compare` meets its contract by std's order of two slices, which is the lexicographic lift of the order of numbers.
+use Rattle.std.proofs.Common.{◌≡◌, ◌∙◌, ℕ, ◌<◌, ◌≤◌, List, [], ◌∷◌, refl, sym, arith}
+use Rattle.std.specs.declared.cmp.Ordering.{Ordering}
+use Rattle.std.specs.declared.cmp.Ordering.TheVariants.{Less, Equal, Greater}
+use Rattle.std.specs.Ordering.{nat_cmp, ordering_then, MatchOrdering}
+use Rattle.std.specs.Cmp.{ranks}
+use Rattle.std.specs.Cmp.Lexicographic.{slice_cmp}
+use Rattle.lists.specs.Order.{byte_order, lex, cmp_nat, and_then, nat_less, nat_same, nat_greater}
 use Rattle.lists.proofs.compare.Goals as goal
 
-both : (a b : List ℕ) (i : ℕ) → i < length a → i < length b
-    → byte_order (drop i a) (drop i b) ≡ and_then (cmp_nat (get_or a i 0) (get_or b i 0)) (byte_order (drop (i + 1) a) (drop (i + 1) b))
+-- std's order of two numbers is `cmp_nat`
+numbers : (x y : ℕ) (o : Ordering) → MatchOrdering o (x < y) (x ≡ y) (y < x) → o ≡ cmp_nat x y
+numbers x y Less h = sym (nat_less x y h)
+numbers x y Equal h = let a : y ≤ x = omega arith in let b : x ≤ y = omega arith in sym (nat_same x y a b)
+numbers x y Greater h = sym (nat_greater x y h)
+
+-- and so one step of its order of two runs
+step : (o p : Ordering) (r s : Ordering) → o ≡ p → r ≡ s → ordering_then o r ≡ and_then p s
+step Less p r s e f = rw (← e)
+step Equal p r s e f = rw (← e) f
+step Greater p r s e f = rw (← e)
+
+std_order : (a b : List ℕ) → slice_cmp nat_cmp a b ≡ byte_order a b
 unfolding lex
-both a b i h k = rw (add-one i, drop-cons a i 0 h, drop-cons b i 0 k)
-
-b-ends : (a b : List ℕ) (i : ℕ) → i < length a → length b ≤ i → byte_order (drop i a) (drop i b) ≡ Greater
-unfolding lex
-b-ends a b i h k = rw (drop-cons a i 0 h, drop_of_length-le b k)
-
-a-ends : (a b : List ℕ) (i : ℕ) → length a ≤ i → i < length b → byte_order (drop i a) (drop i b) ≡ Less
-unfolding lex
-a-ends a b i h k = rw (drop-cons b i 0 k, drop_of_length-le a h)
-
-both_end : (a b : List ℕ) (i : ℕ) → length a ≤ i → length b ≤ i → byte_order (drop i a) (drop i b) ≡ Equal
-unfolding lex
-both_end a b i h k = rw (drop_of_length-le b k, drop_of_length-le a h)
-
-pub loop-i-init : goal.loop-i-init
-loop-i-init c =
-    (omega arith, omega arith, refl)
-
-pub returns-then-i-b : goal.returns-then-i-b
-returns-then-i-b c =
-    sym (c.loop-i.invariant.2 ∙ b-ends _ _ c.loop-i.i (omega arith) c.if-i-b.true)
-
-pub returns-then-a-i : goal.returns-then-a-i
-returns-then-a-i c =
-    let s = both c.args.a.now c.args.b.now c.loop-i.i (omega arith) (omega arith) in
-    sym (c.loop-i.invariant.2 ∙ s ∙ rw (nat_less _ _ c.if-a-i.true))
-
-pub returns-then-b-i : goal.returns-then-b-i
-returns-then-b-i c =
-    let s = both c.args.a.now c.args.b.now c.loop-i.i (omega arith) (omega arith) in
-    sym (c.loop-i.invariant.2 ∙ s ∙ rw (nat_greater _ _ c.if-b-i.true))
-
-pub loop-i-preserved : goal.loop-i-preserved
-loop-i-preserved c =
-    let s = both c.args.a.now c.args.b.now c.loop-i.i (omega arith) (omega arith) in
-    (omega arith, omega arith, c.loop-i.invariant.2 ∙ s ∙ rw (nat_same _ _ c.if-a-i.false c.if-b-i.false))
-
-pub returns-then-i-b-2 : goal.returns-then-i-b-2
-returns-then-i-b-2 c =
-    sym (c.loop-i.invariant.2 ∙ a-ends _ _ c.loop-i.i (omega arith) c.if-i-b-2.true)
+std_order [] [] = refl
+std_order [] (y ∷ ys) = refl
+std_order (x ∷ xs) [] = refl
+std_order (x ∷ xs) (y ∷ ys) = step _ _ _ _ (numbers x y (nat_cmp x y) (ranks x y)) (std_order xs ys)
 
 pub returns : goal.returns
-returns c =
-    sym (c.loop-i.invariant.2 ∙ both_end _ _ c.loop-i.i (omega arith) c.if-i-b-2.false)
+returns c = c.cmp.ensures ∙ std_order _ _

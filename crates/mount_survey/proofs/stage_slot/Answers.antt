@@ -22,17 +22,17 @@ returns-in_default c =
 
 pub overflow_add-end : goal.overflow_add-end
 overflow_add-end c =
-    omega (arith, path_fits _ _ _ c.decode.ensures _ c.in-Found.is)
+    omega (arith, path_fits _ _ _ c.decode.ensures _ c.in-Some.is)
 
 pub slice_bounds-bind_row-end : goal.slice_bounds-bind_row-end
 slice_bounds-bind_row-end c =
-    omega (arith, path_fits _ _ _ c.decode.ensures _ c.in-Found.is, block_long _ _ _ _ _ _ _ c.zeros-block.ensures c.header_read-got.ensures)
+    omega (arith, path_fits _ _ _ c.decode.ensures _ c.in-Some.is, block_long _ _ _ _ _ _ _ c.zeros-block.ensures c.header_read-got.ensures)
 
 pub bind_row-requires : goal.bind_row-requires
 bind_row-requires c = (
   (rows_grow _ _ 1 _ _ c.requires.shape.1 (omega (arith, c.requires.i_lt_cap.0))).1,
   omega arith,
-  part_short _ _ _ c.decode.ensures _ c.in-Found.is,
+  part_short _ _ _ c.decode.ensures _ c.in-Some.is,
 )
 
 pub returns-then-is_claim : goal.returns-then-is_claim
@@ -43,7 +43,7 @@ returns-then-is_claim c =
     let t = sym c.if-is_claim.true
     ∙ c.is_claim.ensures in let all = slot_claim _ _ _ _ _ _ _ _ c.requires.shape.1 c.requires.i_lt_cap.0 _ (place_is _ _ _ _ _ _ _ z r) _ _ _ _ _ _
     (read_done _ _ _ _ _ _ _ z r c.if-last-eq10.false) c.raised-more.ensures
-    (head_claim _ _ _ c.decode.ensures _ c.in-Found.is _ (said _ _ _ _ _ _ _ z r) t)
+    (head_claim _ _ _ c.decode.ensures _ c.in-Some.is _ (said _ _ _ _ _ _ _ z r) t)
     bind-row.ensures.rows bind-row.ensures.flat in
     record { place = all.0; failed = all.1.0; asked = all.1.1.0; rows = all.1.1.1.0; flat = all.1.1.1.1.0; kept = all.1.1.1.1.1 }
 
@@ -53,5 +53,5 @@ returns c =
     let z = c.zeros-block.ensures in
     let t = sym c.if-is_claim.false ∙ c.is_claim.ensures in let all = slot_idle _ _ _ _ _ _ _ _ c.requires.shape.1 c.requires.i_lt_cap.0 _ (place_is _ _ _ _ _ _ _ z r) _ _
     (read_done _ _ _ _ _ _ _ z r c.if-last-eq10.false) c.raised-more.ensures
-    (head_idle _ _ _ c.decode.ensures _ c.in-Found.is _ (said _ _ _ _ _ _ _ z r) t) in
+    (head_idle _ _ _ c.decode.ensures _ c.in-Some.is _ (said _ _ _ _ _ _ _ z r) t) in
     record { place = all.0; failed = all.1.0; asked = all.1.1.0; rows = all.1.1.1.0; flat = all.1.1.1.1.0; kept = all.1.1.1.1.1 }

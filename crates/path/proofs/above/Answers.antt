@@ -2,10 +2,10 @@
 use Rattle.path.proofs.Parents.{above_none, above_some}
 use Rattle.path.proofs.above.Goals as goal
 
-pub returns-in-Nothing : goal.returns-in-Nothing
-returns-in-Nothing c =
-    above_none _ c.in-Nothing.ensures
+pub returns-in-None : goal.returns-in-None
+returns-in-None c =
+    above_none _ c.in-None.ensures
 
-pub returns-in-At : goal.returns-in-At
-returns-in-At c =
-    above_some _ _ c.in-At.ensures
+pub returns-in-Some : goal.returns-in-Some
+returns-in-Some c =
+    above_some _ _ c.in-Some.ensures

@@ -7,15 +7,15 @@ pub slice_bounds-same_path-end : goal.slice_bounds-same_path-end
 slice_bounds-same_path-end c =
     let args = c.args in
     let parent-end = c.parent_end-up in
-    let u = c.in-At.ensures in
+    let u = c.in-Some.ensures in
     sym (length-take-le _ _ u.inside)
 
-pub returns-in-Nothing : goal.returns-in-Nothing
-returns-in-Nothing c =
-    parent_none _ _ c.in-Nothing.ensures
+pub returns-in-None : goal.returns-in-None
+returns-in-None c =
+    parent_none _ _ c.in-None.ensures
 
-pub returns-in-At : goal.returns-in-At
-returns-in-At c =
+pub returns-in-Some : goal.returns-in-Some
+returns-in-Some c =
     let args = c.args in
     let parent-end = c.parent_end-up in
-    c.same_path.ensures ∙ parent_some _ _ _ c.in-At.ensures
+    c.same_path.ensures ∙ parent_some _ _ _ c.in-Some.ensures

@@ -7,7 +7,7 @@ pub slice_bounds-normalize-end : goal.slice_bounds-normalize-end
 slice_bounds-normalize-end c =
     let args = c.args in
     let parent-end = c.parent_end-up in
-    let u = c.in-At.ensures in
+    let u = c.in-Some.ensures in
     sym (length-take-le _ _ u.inside)
 
 pub normalize-n-requires : goal.normalize-n-requires
@@ -15,16 +15,16 @@ normalize-n-requires c =
     let args = c.args in
     let parent-end = c.parent_end-up in
     let pre = c.requires in
-    up_room _ _ _ c.in-At.ensures pre
+    up_room _ _ _ c.in-Some.ensures pre
 
-pub returns-in-Nothing : goal.returns-in-Nothing
-returns-in-Nothing c =
-    let all = parent_kept _ _ c.in-Nothing.ensures in
+pub returns-in-None : goal.returns-in-None
+returns-in-None c =
+    let all = parent_kept _ _ c.in-None.ensures in
     record { long = all.0; laid = all.1 }
 
-pub returns-in-At : goal.returns-in-At
-returns-in-At c =
+pub returns-in-Some : goal.returns-in-Some
+returns-in-Some c =
     let args = c.args in
-    let parent-end = c.parent_end-up in let all = up_laid _ _ _ _ _ c.in-At.ensures
+    let parent-end = c.parent_end-up in let all = up_laid _ _ _ _ _ c.in-Some.ensures
     (c.normalize-n.ensures.laid, c.normalize-n.ensures.long) in
     record { long = all.0; laid = all.1 }

@@ -1,12 +1,12 @@
 -- The buffer is all 0xAA when the call is made.
+use Rattle.std.specs.Prelude.{Some}
 use mathlib.Core.Path.{sym, ap, ◌∙◌}
-use Rattle.lists.specs.declared.Found.TheVariants.{At}
 use Rattle.served.specs.Requests.{export_of}
 use Rattle.served.proofs.ask.Goals as goal
 
 pub make-requires : goal.make-requires
 make-requires c =
-    c.requires ∙ ap At (sym c.blank.auto.dst)
+    c.requires ∙ ap Some (sym c.blank.auto.dst)
 
 pub returns : goal.returns
 returns c =

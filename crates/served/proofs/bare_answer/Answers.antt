@@ -18,23 +18,23 @@ overflow_add-end c =
     let a = c.args in
     omega (
       arith,
-      end_fits a.request.now a.out.now c.if-request-eq0.false c.lends.ensures c.in-At.is c.width_of-width.ensures,
+      end_fits a.request.now a.out.now c.if-request-eq0.false c.lends.ensures c.in-Some.is c.width_of-width.ensures,
     )
 
 pub returns-then-out-end : goal.returns-then-out-end
 returns-then-out-end c =
     let a = c.args in
-    no_room a.request.now a.out.now c.if-request-eq0.false c.lends.ensures c.in-At.is
+    no_room a.request.now a.out.now c.if-request-eq0.false c.lends.ensures c.in-Some.is
     c.width_of-width.ensures c.if-out-end.true
 
 pub ask-r-requires : goal.ask-r-requires
 ask-r-requires c =
     let a = c.args in
-    lent_part a.request.now a.out.now c.if-request-eq0.false c.lends.ensures c.in-At.is
+    lent_part a.request.now a.out.now c.if-request-eq0.false c.lends.ensures c.in-Some.is
     c.width_of-width.ensures c.if-out-end.false
 
 pub returns : goal.returns
 returns c =
     let a = c.args in
-    whole_answer a.request.now a.out.now c.if-request-eq0.false c.lends.ensures c.in-At.is
+    whole_answer a.request.now a.out.now c.if-request-eq0.false c.lends.ensures c.in-Some.is
     c.width_of-width.ensures c.if-out-end.false c.ask-r.ensures c.put_at.ensures

@@ -1,15 +1,15 @@
 -- Row by row; `no_export` is the last.
+use Rattle.std.specs.Prelude.{Option}
 use mathlib.Core.Path.{◌≡◌, sym, ap, ◌∙◌}
 use Prim.Native.Nat.{ℕ}
 use mathlib.Core.List.{List}
-use Rattle.lists.specs.declared.Found.{Found}
 use Rattle.served.specs.Requests.{Export, export_of}
 use borrow.Author.Rules.{rules}
 use Rattle.served.proofs.Ways.{no_export}
 use Rattle.served.proofs.lends.Goals as goal
 
 -- what the row of a number says is lent
-abbrev lent : List ℕ → ℕ → Found
+abbrev lent : List ℕ → ℕ → Option ℕ
 lent body call = (export_of call).lends body
 
 pub returns-in-1 : goal.returns-in-1

@@ -1,9 +1,9 @@
 -- Row by row: the body is as long as the row needs it, and the call is the row's. `no_export` is the last.
+use Rattle.std.specs.Prelude.{Option}
 use Prim.Native.Nat.{ℕ, ◌≤◌}
 use mathlib.Core.Path.{◌≡◌, sym, ap, ◌∙◌}
 use mathlib.Core.List.{List}
 use lib.ListN.{length}
-use Rattle.lists.specs.declared.Found.{Found}
 use Rattle.output.specs.Writer.{Shown, poured}
 use Rattle.script.specs.Script.{script_m}
 use Rattle.harness.specs.Calls.{Outcome, outcome, decode_call, normal_call, parent_call}
@@ -13,7 +13,7 @@ use Rattle.served.proofs.Ways.{no_export, plain_long, lent_long, two_long, from_
 use Rattle.served.proofs.make.Goals as goal
 
 -- what the row of a number says is lent
-abbrev lent : List ℕ → ℕ → Found
+abbrev lent : List ℕ → ℕ → Option ℕ
 lent body call = (export_of call).lends body
 
 -- what the call of a row comes to
