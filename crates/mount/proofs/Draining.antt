@@ -4,8 +4,8 @@ use native.Mathlib.Omega.{arith}
 use native.Mathlib.Numerals.{add-one}
 use mathlib.Core.Path.{◌≡◌, refl, sym, ap, ◌∙◌, subst}
 use mathlib.Core.List.{List, [], ◌∷◌}
-use lib.ListN.{length, take, drop, get_or, drop_of_length-le}
-use lib.Seq.{drop-cons, get_or-take, length-take-le}
+use lib.ListN.{length, drop, get_or, drop_of_length-le}
+use lib.Seq.{drop-cons}
 use Rattle.limits.specs.Limits.{last_counter}
 use Rattle.lists.specs.Distinct.{In}
 use Rattle.device.specs.declared.Geometry.{Geometry}
@@ -25,28 +25,28 @@ pub record Draining (plan : List ℕ) (g : Geometry) (ls : List ℕ) (w : World)
 pub draining_start : (plan : List ℕ) (g : Geometry) (ls : List ℕ) (l : Lent) → Ready g l → Due ls (view_w l) → Draining plan g ls (view_w l) l 0
 draining_start plan g ls l R D = record { ready = R; due = D; left = refl }
 
-module _ (plan : List ℕ) (g : Geometry) (xs : List ℕ) (count : ℕ) (w : World) (l : Lent) (i : ℕ) (D : Draining plan g (take count xs) w l i) (long : count ≤ length xs) where
-  module _ (h : i < count) where
+module _ (plan : List ℕ) (g : Geometry) (xs : List ℕ) (w : World) (l : Lent) (i : ℕ) (D : Draining plan g xs w l i) where
+  module _ (h : i < length xs) where
     abbrev x : ℕ
     x = get_or xs i 0
 
-    next : drop i (take count xs) ≡ x ∷ drop (i + 1) (take count xs)
-    next = drop-cons (take count xs) i 0 (omega (arith, length-take-le count xs long)) ∙ rw (get_or-take count xs i 0 h, add-one)
+    next : drop i xs ≡ x ∷ drop (i + 1) xs
+    next = drop-cons xs i 0 h ∙ rw add-one
 
-    due : Due (x ∷ drop (i + 1) (take count xs)) (view_w l)
+    due : Due (x ∷ drop (i + 1) xs) (view_w l)
     due = subst (λ (r : List ℕ). Due r (view_w l)) next D.due
 
     -- the next loser may be released
     pub draining_first : Ready g l × ((x < l.bufs.pool.held) × (In x (queue_of l.bufs.pool) → ⊥) × (l.bufs.pool.counter < last_counter))
     unfolding view_w view
     draining_first =
-        let f = due_first plan g x (drop (i + 1) (take count xs)) (view_w l) due in
+        let f = due_first plan g x (drop (i + 1) xs) (view_w l) due in
         (D.ready, (omega (arith, f.0, length_rows l.bufs.nums l.bufs.names l.bufs.pool.held), f.1, f.2))
 
-    pub draining_more : (e : Lent) → e ≡ flat_w (release_m plan g x (view_w l)) → Draining plan g (take count xs) w e (i + 1)
+    pub draining_more : (e : Lent) → e ≡ flat_w (release_m plan g x (view_w l)) → Draining plan g xs w e (i + 1)
     unfolding drain
     draining_more e q =
-        let r = drop (i + 1) (take count xs) in
+        let r = drop (i + 1) xs in
         let z = world_is g (release_m plan g x (view_w l)) e (due_fit plan g x r (view_w l) due (ready_fit g l D.ready)) q in
         record {
           ready = z.1;
@@ -54,8 +54,8 @@ module _ (plan : List ℕ) (g : Geometry) (xs : List ℕ) (count : ℕ) (w : Wor
           left = ap (drain plan g r) z.0 ∙ ap (λ (t : List ℕ). drain plan g t (view_w l)) (sym next) ∙ D.left;
         }
 
-  pub draining_done : count ≤ i → l ≡ flat_w (drain plan g (take count xs) w)
+  pub draining_done : length xs ≤ i → l ≡ flat_w (drain plan g xs w)
   unfolding drain
   draining_done h =
-      let e : drop i (take count xs) ≡ [] = drop_of_length-le (take count xs) {i = i} (omega (arith, length-take-le count xs long)) in
+      let e : drop i xs ≡ [] = drop_of_length-le xs {i = i} h in
       lent_stays l D.ready.pool ∙ ap flat_w (ap (λ (t : List ℕ). drain plan g t (view_w l)) (sym e) ∙ D.left)

@@ -47,25 +47,13 @@ pub fn drain(
 {
     let mut at = place;
     let mut q = pool;
-    let mut i = 0;
-    while i < count {
-        let loser = losers[i] as usize;
-        let s = pool_steps::release(bytes, phys, geometry, plan, at, nums, names, dirs, q, loser);
+    for loser in &losers[..count] {
+        let slot = *loser as usize;
+        let s = pool_steps::release(bytes, phys, geometry, plan, at, nums, names, dirs, q, slot);
         at = s.place;
         q = s.pool;
-        i += 1;
     }
     Stepped { place: at, pool: q }
-}
-
-// The later of two generations.
-fn later(a: u64, b: u64) -> u64
-    ensures { result ≡ max a b }
-{
-    if a < b {
-        return b;
-    }
-    a
 }
 
 // Takes k more slots of the device into the pool.
@@ -116,7 +104,7 @@ pub fn adopt(
     let list = losers.list;
     let count = losers.count;
     let asked = staged.asked;
-    let counter = later(pool.counter, asked);
+    let counter = pool.counter.max(asked);
     let accepted = mount_install::accept(nums, names, dirs, pool, m, counter, count);
     let out = accepted.out;
     if out != 0 {

@@ -2,7 +2,7 @@
 use Prim.Native.Nat.{ℕ, suc, ◌+◌, ◌≤◌, ◌<◌}
 use native.Mathlib.Omega.{arith}
 use mathlib.Core.Path.{◌≡◌, refl, sym, ap, ◌∙◌}
-use mathlib.Core.Bool.{Bool, true, false, cond, false≢true}
+use mathlib.Core.Bool.{Bool, true, false, cond}
 use mathlib.Core.List.{List, [], ◌∷◌, ◌++◌, append_assoc, append-nil}
 use lib.Dec.{leb}
 use lib.ListN.{length, take, set, length-append, length-set}
@@ -20,7 +20,7 @@ use Rattle.pool_state.specs.declared.Pool.{Pool}
 use Rattle.pool_state.specs.State.{State, pool_of}
 use Rattle.pool_state.specs.Queue.{queued, pushed}
 use Rattle.pool_state.specs.InBuffers.{push_pool}
-use Rattle.mount_install.specs.declared.Registered.{Registered}
+use Rattle.std.specs.Prelude.{Option, None, Some}
 use Rattle.mount_survey.specs.Staged.{claimed, vacated}
 use Rattle.mount_install.specs.Install.{answered, kept, pushed_all}
 
@@ -55,13 +55,13 @@ claimed_dirs [] ds D = D
 claimed_dirs (r ∷ rs) ds D = claimed_dirs rs (registered ds (path_of r)) (registered_dirs ds (path_of r) D)
 
 -- There is room, or there is not.
-pub answered_yes : (cap d : ℕ) (ds : List (List ℕ)) → length ds ≤ cap → answered cap d ds ≡ record { ok = true; dirs = length ds }
+pub answered_yes : (cap : ℕ) (ds : List (List ℕ)) → length ds ≤ cap → answered cap ds ≡ Some (length ds)
 unfolding answered
-answered_yes cap d ds h = rw (le-leb (length ds) cap h)
+answered_yes cap ds h = rw (le-leb (length ds) cap h)
 
-pub answered_no : (cap d : ℕ) (ds : List (List ℕ)) → cap < length ds → answered cap d ds ≡ record { ok = false; dirs = d }
+pub answered_no : (cap : ℕ) (ds : List (List ℕ)) → cap < length ds → answered cap ds ≡ None
 unfolding answered
-answered_no cap d ds h = rw (lt-leb (length ds) cap h)
+answered_no cap ds h = rw (lt-leb (length ds) cap h)
 
 pub kept_yes : (cap : ℕ) (ds : List (List ℕ)) (b : List ℕ) → length ds ≤ cap → kept cap ds b ≡ flat_dirs cap ds
 unfolding kept
@@ -71,20 +71,20 @@ pub kept_no : (cap : ℕ) (ds : List (List ℕ)) (b : List ℕ) → cap < length
 unfolding kept
 kept_no cap ds b h = rw (lt-leb (length ds) cap h)
 
-pub said_yes : (cap d : ℕ) (ds : List (List ℕ)) (r : Registered) → r ≡ answered cap d ds → r.ok ≡ true → (length ds ≤ cap) × (r.dirs ≡ length ds)
+pub said_yes : (cap : ℕ) (ds : List (List ℕ)) (r : Option ℕ) (e : ℕ) → r ≡ answered cap ds → r ≡ Some e → (length ds ≤ cap) × (e ≡ length ds)
 unfolding answered
-said_yes cap d ds r e h = go (leb (length ds) cap) refl e
+said_yes cap ds r e t o = go (leb (length ds) cap) refl (sym o ∙ t)
   where
-    go : (t : Bool) → leb (length ds) cap ≡ t → r ≡ cond t (record { ok = true; dirs = length ds }) (record { ok = false; dirs = d }) → (length ds ≤ cap) × (r.dirs ≡ length ds)
-    go true f q = (leb-true (length ds) cap f, ap (λ (x : Registered). x.dirs) q)
-    go false f q = absurd (false≢true (sym (ap (λ (x : Registered). x.ok) q) ∙ h))
+    go : (b : Bool) → leb (length ds) cap ≡ b → Some e ≡ cond b (Some (length ds)) None → (length ds ≤ cap) × (e ≡ length ds)
+    go true f q = (leb-true (length ds) cap f, cc)
+    go false f q = cc
 
-pub said_no : (cap d : ℕ) (ds : List (List ℕ)) (r : Registered) → r ≡ answered cap d ds → r.ok ≡ false → cap < length ds
+pub said_no : (cap : ℕ) (ds : List (List ℕ)) (r : Option ℕ) → r ≡ answered cap ds → r ≡ None → cap < length ds
 unfolding answered
-said_no cap d ds r e h = go (leb (length ds) cap) refl e
+said_no cap ds r t o = go (leb (length ds) cap) refl (sym o ∙ t)
   where
-    go : (t : Bool) → leb (length ds) cap ≡ t → r ≡ cond t (record { ok = true; dirs = length ds }) (record { ok = false; dirs = d }) → cap < length ds
-    go true f q = absurd (false≢true (sym h ∙ ap (λ (x : Registered). x.ok) q))
+    go : (b : Bool) → leb (length ds) cap ≡ b → None ≡ cond b (Some (length ds)) None → cap < length ds
+    go true f q = cc
     go false f q = leb-false (length ds) cap f
 
 -- ---- the queue

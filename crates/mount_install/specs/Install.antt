@@ -1,6 +1,6 @@
 -- What a mount makes of the rows that it has staged, in the words of survey's Staged: 01, "Mount, adopt". A new slot's row is bound where its
 -- header is a claim, and zero where not.
-use Rattle.std.specs.Prelude.{ℕ, ◌+◌, ◌≤◌, ◌≡◌, true, false, cond, List, [], ◌∷◌, leb, ltb, length, take, drop}
+use Rattle.std.specs.Prelude.{ℕ, ◌+◌, ◌≤◌, ◌≡◌, cond, Option, None, Some, List, [], ◌∷◌, leb, ltb, length, take, drop}
 use Rattle.limits.specs.Limits.{last_counter}
 use Rattle.lists.specs.Lends.{Run}
 use Rattle.slot_rows.specs.Rows.{Row, rows_of, flat_nums, flat_names}
@@ -8,11 +8,10 @@ use Rattle.dir_rows.specs.Rows.{dirs_of, flat_dirs}
 use Rattle.mount_survey.specs.Staged.{claimed}
 use Rattle.pool_state.specs.declared.Pool.{Pool}
 use Rattle.pool_state.specs.Queue.{pushed}
-use Rattle.mount_install.specs.declared.Registered.{Registered}
 
--- The directories ds, if cap rows hold them; else 8 is due, and the d directories stay.
-unfoldable pub answered : ℕ → ℕ → List (List ℕ) → Registered
-answered cap d ds = cond (leb (length ds) cap) (record { ok = true; dirs = length ds }) (record { ok = false; dirs = d })
+-- How many the directories ds are, if cap rows hold them; else none, and 8 is due.
+unfoldable pub answered : ℕ → List (List ℕ) → Option ℕ
+answered cap ds = cond (leb (length ds) cap) (Some (length ds)) None
 
 -- The buffer then: it holds them, or is as it was.
 unfoldable pub kept : ℕ → List (List ℕ) → List ℕ → List ℕ

@@ -17,13 +17,6 @@ ghost use Rattle.mount_install.specs.Install.{three_before, three_after, rows_be
 use limits::{DIR_WIDTH, LAST_COUNTER, MAX_PATH};
 use pool_state::Pool;
 
-// Whether there was room for all directories, and how many there are now.
-#[derive(Clone, Copy)]
-pub struct Registered {
-    pub ok: bool,
-    pub dirs: usize,
-}
-
 // The refusal that the new slots meet, or 0, and how many directories there are then.
 #[derive(Clone, Copy)]
 pub struct Accepted {
@@ -43,7 +36,8 @@ pub fn clear_dirs(dirs: &mut [u8], cap: usize, d: usize, e: usize)
 
 // ---- the claims' ancestors
 
-// Registers the ancestors of row i's path, if there is room for those that are missing. An unbound row's path is empty and has none.
+// Registers the ancestors of row i's path, and gives how many directories there are then; none where there is no room for those that are
+// missing. An unbound row's path is empty and has no ancestor.
 fn register_row(
     nums: &[u64],
     names: &[u8],
@@ -53,9 +47,9 @@ fn register_row(
     dir_cap: usize,
     d: usize,
     i: usize,
-) -> Registered
+) -> Option<usize>
     requires { Flat cap m nums.now names.now × FlatDirs dir_cap d dirs.old × (i < m) }
-    ensures told { result ≡ answered dir_cap d (registered (dirs_of dirs.old d) (path_of (at (rows_before nums.now names.now m) i))) }
+    ensures told { result ≡ answered dir_cap (registered (dirs_of dirs.old d) (path_of (at (rows_before nums.now names.now m) i))) }
     ensures dirs { dirs.new
         ≡ kept dir_cap (registered (dirs_of dirs.old d) (path_of (at (rows_before nums.now names.now m) i))) dirs.old }
 {
@@ -63,13 +57,14 @@ fn register_row(
     let from = i * MAX_PATH;
     let more = dir_rows::missing(dirs, d, &names[from..from + k]);
     if dir_cap - d < more {
-        return Registered { ok: false, dirs: d };
+        return None;
     }
     let e = dir_rows::register_ancestors(dirs, dir_cap, d, &names[from..from + k]);
-    Registered { ok: true, dirs: e }
+    Some(e)
 }
 
-// Registers the ancestors of the paths of the rows from n to m - 1; where there is no room for all, none.
+// Registers the ancestors of the paths of the rows from n to m - 1, and gives how many directories there are then; where there is no room
+// for all, none is registered.
 pub fn register_claims(
     nums: &[u64],
     names: &[u8],
@@ -79,24 +74,20 @@ pub fn register_claims(
     m: usize,
     dir_cap: usize,
     d: usize,
-) -> Registered
+) -> Option<usize>
     requires { Flat cap m nums.now names.now × FlatDirs dir_cap d dirs.old × (n ≤ m) }
-    ensures told { result ≡ answered dir_cap d (claimed_before nums.now names.now dirs.old n m d) }
+    ensures told { result ≡ answered dir_cap (claimed_before nums.now names.now dirs.old n m d) }
     ensures dirs { dirs.new ≡ kept dir_cap (claimed_before nums.now names.now dirs.old n m d) dirs.old }
 {
     let mut e = d;
-    let mut i = n;
-    while i < m {
-        let one = register_row(nums, names, dirs, cap, m, dir_cap, e, i);
-        let ok = one.ok;
-        if !ok {
+    for i in n..m {
+        let Some(one) = register_row(nums, names, dirs, cap, m, dir_cap, e, i) else {
             clear_dirs(dirs, dir_cap, d, e);
-            return Registered { ok: false, dirs: d };
-        }
-        e = one.dirs;
-        i += 1;
+            return None;
+        };
+        e = one;
     }
-    Registered { ok: true, dirs: e }
+    Some(e)
 }
 
 // Registers the claims' ancestors, and looks whether the counter leaves a generation for each loser; 8 or 9 puts the rows back as they were
@@ -126,13 +117,10 @@ pub fn accept(
     let n = pool.held;
     let dir_cap = pool.chosen.dir_rows;
     let d = pool.dirs;
-    let found = register_claims(nums, names, dirs, cap, n, m, dir_cap, d);
-    let e = found.dirs;
-    let ok = found.ok;
-    if !ok {
+    let Some(e) = register_claims(nums, names, dirs, cap, n, m, dir_cap, d) else {
         mount_survey::unstage(nums, names, cap, n, m);
         return Accepted { out: 8, dirs: 0 };
-    }
+    };
     if LAST_COUNTER - (losers as u64) < counter {
         clear_dirs(dirs, dir_cap, d, e);
         mount_survey::unstage(nums, names, cap, n, m);
@@ -160,11 +148,9 @@ pub fn queue_spares(nums: &[u64], names: &[u8], pool: Pool, cap: usize, n: usize
     ensures { result ≡ pushed_all (spares n (drop n (rows_of nums.now names.now m))) pool }
 {
     let mut q = pool;
-    let mut i = n;
-    while i < m {
+    for i in n..m {
         let bound = slot_rows::is_bound(nums, names, cap, m, i);
         q = queue_spare(q, i, bound);
-        i += 1;
     }
     q
 }
@@ -182,11 +168,8 @@ pub fn unbind_losers(
     ensures rows { rows_of nums.new names.new m ≡ vacated (take count losers) (rows_before nums.old names.old m) }
     ensures flat { Flat cap m nums.new names.new }
 {
-    let mut i = 0;
-    while i < count {
-        let loser = losers[i] as usize;
-        slot_rows::unbind_row(nums, names, cap, m, loser, 0);
-        i += 1;
+    for loser in &losers[..count] {
+        slot_rows::unbind_row(nums, names, cap, m, *loser as usize, 0);
     }
 }
 

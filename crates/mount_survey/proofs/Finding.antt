@@ -3,7 +3,7 @@
 use mathlib.Core.Path.{◌≡◌, refl, sym, ap, ◌∙◌}
 use mathlib.Core.Bool.{Bool, true, false, cond, false≢true}
 use mathlib.Core.List.{List, [], ◌∷◌, ◌++◌, map, append-nil}
-use Prim.Native.Nat.{ℕ, zero, suc, ◌+◌, ◌*◌, ◌-◌, ◌≤◌, ◌<◌}
+use Prim.Native.Nat.{ℕ, zero, suc, ◌+◌, ◌-◌, ◌≤◌, ◌<◌}
 use native.Mathlib.Decide.{ℕ_discrete}
 use native.Mathlib.Numerals.{add-one}
 use native.Mathlib.Omega.{arith}
@@ -11,13 +11,9 @@ use lib.Dec.{eqb, leb}
 use borrow.Author.Tests.{eqb-true, le-leb, lt-leb}
 use lib.ListN.{length, get_or, set, take, drop, replicate, length-set, length-append, length-replicate, drop_of_length-le, get_or-eq_default}
 use lib.Seq.{take-suc, drop-cons, length-take-le, get_or-take, get_or-set_other, set-append_seam, set-append_left}
-use Rattle.limits.specs.Limits.{max_path}
 use Rattle.lists.specs.Blocks.{pad, snoc_pad}
-use Rattle.path.specs.Path.{same_path, key_of}
-use Rattle.path.proofs.Theorems.{key_same}
-use Rattle.slot_rows.specs.Rows.{Row, unbound, bound, none, at, is_bound, path_of, gen_of, holds, find, rows_of, Flat}
-use Rattle.slot_rows.proofs.InBuffers.{name_part}
-use Rattle.slot_rows.proofs.Finding.{holds_unbound, holds_path, find_holds, find_le, find_is, find_absent}
+use Rattle.slot_rows.specs.Rows.{Row, unbound, bound, none, at, is_bound, path_of, gen_of, holds, find}
+use Rattle.slot_rows.proofs.Finding.{find_holds, find_le, find_is, find_absent}
 use Rattle.mount_survey.specs.Survey.{Survey, survey, claim_row, rival, meet, step, scan}
 use Rattle.mount_survey.specs.Claims.{row_of, claim_of, losers_of, left, live, beaten, loser_of}
 use Rattle.mount_survey.proofs.LostClaims.{Alike, held_inside, snoc_alike, scan_alike}
@@ -75,31 +71,19 @@ live_next xs rs i h e =
 
 -- ---- one row
 
--- the row's part of the names, where it has not lost, is its path
-module _ (cap m : ℕ) (l s : List ℕ) (F : Flat cap m l s) (p : List ℕ) (key x j : ℕ) (h : j < m) (kp : key ≡ key_of p) where
-  pub stands_lost : (x ≡ 0 → ⊥) → false ≡ holds p (left x (at (rows_of l s m) j))
-  unfolding left holds
-  stands_lost ne = go (eqb x 0) refl
-    where
-      go : (b : Bool) → eqb x 0 ≡ b → false ≡ holds p (cond b (at (rows_of l s m) j) none)
-      go true e = absurd (ne (eqb-true x 0 e))
-      go false e = refl
+-- a row that has lost holds no path
+pub lost_holds : (p : List ℕ) (r : Row) (x : ℕ) → (x ≡ 0 → ⊥) → false ≡ holds p (left x r)
+unfolding left holds
+lost_holds p r x ne = go (eqb x 0) refl
+  where
+    go : (b : Bool) → eqb x 0 ≡ b → false ≡ holds p (cond b r none)
+    go true e = absurd (ne (eqb-true x 0 e))
+    go false e = refl
 
-  pub stands_unbound : x ≡ 0 → false ≡ is_bound (at (rows_of l s m) j) → false ≡ holds p (left x (at (rows_of l s m) j))
-  unfolding left
-  stands_unbound e b = rw e (sym (holds_unbound p (at (rows_of l s m) j) (sym b)))
-
-  module _ (k : ℕ) (e : x ≡ 0) (b : true ≡ is_bound (at (rows_of l s m) j)) (n : k ≡ length (path_of (at (rows_of l s m) j))) where
-    pub stands_same : same_path (take (j * max_path + k - j * max_path) (drop (j * max_path) s)) p ≡ holds p (left x (at (rows_of l s m) j))
-    unfolding left
-    stands_same = rw e (ap (λ (q : List ℕ). same_path q p) (name_part cap m l s F j h k n).1 ∙ sym (holds_path p (at (rows_of l s m) j) (sym b)))
-
-    pub stands_other : (key_of (take (j * max_path + k - j * max_path) (drop (j * max_path) s)) ≡ key → ⊥) → false ≡ holds p (left x (at (rows_of l s m) j))
-    stands_other ne = go (same_path (take (j * max_path + k - j * max_path) (drop (j * max_path) s)) p) refl ∙ stands_same
-      where
-        go : (t : Bool) → same_path (take (j * max_path + k - j * max_path) (drop (j * max_path) s)) p ≡ t → false ≡ t
-        go true q = absurd (ne (key_same (take (j * max_path + k - j * max_path) (drop (j * max_path) s)) p q ∙ sym kp))
-        go false q = refl
+-- any other holds what it held
+pub kept_holds : (p : List ℕ) (r : Row) (x : ℕ) → x ≡ 0 → holds p r ≡ holds p (left x r)
+unfolding left
+kept_holds p r x e = rw e
 
 -- ---- the holder among the rows before i
 

@@ -61,17 +61,14 @@ pub fn stage(
     let end = n + k;
     let mut at = place;
     let mut asked = 0;
-    let mut i = n;
-    while i < end {
+    for i in n..end {
         let s = stage_slot(bytes, phys, geometry, plan, at, nums, names, cap, i, asked);
-        let failed = s.failed;
-        if failed {
+        if s.failed {
             unstage(nums, names, cap, n, i);
             return s;
         }
         at = s.place;
         asked = s.asked;
-        i += 1;
     }
     Staged {
         place: at,
@@ -157,10 +154,7 @@ fn stage_slot(
 fn is_claim(in_use: bool, path_len: usize) -> bool
     ensures { result ≡ (in_use && ltb 0 path_len) }
 {
-    if in_use {
-        return path_len > 0;
-    }
-    false
+    in_use && path_len > 0
 }
 
 // What is asked of the counter with one more generation.
@@ -199,13 +193,11 @@ pub fn find_losers(nums: &[u64], names: &[u8], cap: usize, n: usize, m: usize) -
     ensures count { result.count ≡ length (losers_of n (rows_of nums.now names.now m)) }
     ensures few { result.count ≤ m - n }
 {
-    let mut lost = zeros();
-    let mut list = zeros();
+    let mut lost = [0u8; 64];
+    let mut list = [0u8; 64];
     let mut count = 0;
-    let mut i = n;
-    while i < m {
+    for i in n..m {
         let l = loser(nums, names, cap, m, &lost, i);
-        i += 1;
         if l < m {
             lost[l] = 1;
             list[count] = l as u8;
@@ -213,13 +205,6 @@ pub fn find_losers(nums: &[u64], names: &[u8], cap: usize, n: usize, m: usize) -
         }
     }
     Losers { list, count }
-}
-
-// No slot.
-fn zeros() -> [u8; 64]
-    ensures { result ≡ replicate 64 0 }
-{
-    [0u8; 64]
 }
 
 // The slot that loses where row i comes behind the rows before it, of which some have lost: i, the holder of its path, or m for none.
@@ -260,12 +245,10 @@ fn holder(
     ensures { result ≡ find p.now (live lost.now (take i (rows_of nums.now names.now m))) }
 {
     let key = path::key(p);
-    let mut j = 0;
-    while j < i {
+    for j in 0..i {
         if stands(nums, names, cap, m, lost, j, p, key) {
             return j;
         }
-        j += 1;
     }
     i
 }
@@ -289,14 +272,5 @@ fn stands(
     if lost[j] != 0 {
         return false;
     }
-    if slot_rows::is_bound(nums, names, cap, m, j) {
-        let k = slot_rows::path_len(nums, names, cap, m, j);
-        let from = j * MAX_PATH;
-        let to = from + k;
-        if path::key(&names[from..to]) != key {
-            return false;
-        }
-        return path::same_path(&names[from..to], p);
-    }
-    false
+    slot_rows::row_is(nums, names, cap, m, j, p, key)
 }

@@ -235,7 +235,7 @@ fn spells(q: &[u8], p: &[u8], key: u32) -> bool
 }
 
 // Whether row i is bound to a path equal to p, whose key is given.
-fn row_is(nums: &[u64], names: &[u8], cap: usize, n: usize, i: usize, p: &[u8], key: u32) -> bool
+pub fn row_is(nums: &[u64], names: &[u8], cap: usize, n: usize, i: usize, p: &[u8], key: u32) -> bool
     requires { Flat cap n nums.now names.now × (i < n) × (key ≡ key_of p.now) }
     ensures { result ≡ holds p.now (at (rows_of nums.now names.now n) i) }
 {

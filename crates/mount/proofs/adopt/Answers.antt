@@ -46,11 +46,11 @@ accept-accepted-requires c =
 
 pub returns-then-out-ne0 : goal.returns-then-out-ne0
 returns-then-out-ne0 c =
-    refused c.args.plan.now c.args.geometry c.args.k (lent (dev c.args.bytes.now c.args.phys.now c.args.place) (bufs c.args.pool c.args.nums.now c.args.names.now c.args.dirs.now)) c.requires (omega (arith, c.if-cap-n.false)) (omega (arith, c.if-phys-n.false)) _ c.stage-staged.ensures.place (sym c.stage-staged.ensures.failed ∙ c.if-failed.false) _ _ (c.stage-staged.ensures.rows c.if-failed.false) (c.stage-staged.ensures.flat c.if-failed.false) _ _ c.find_losers-losers.ensures.list c.find_losers-losers.ensures.count c.find_losers-losers.ensures.few _ _ c.stage-staged.ensures.asked c.later-counter.ensures _ c.accept-accepted.ensures.out _ _ _ c.if-out-ne0.true c.accept-accepted.ensures.back
+    refused c.args.plan.now c.args.geometry c.args.k (lent (dev c.args.bytes.now c.args.phys.now c.args.place) (bufs c.args.pool c.args.nums.now c.args.names.now c.args.dirs.now)) c.requires (omega (arith, c.if-cap-n.false)) (omega (arith, c.if-phys-n.false)) _ c.stage-staged.ensures.place (sym c.stage-staged.ensures.failed ∙ c.if-failed.false) _ _ (c.stage-staged.ensures.rows c.if-failed.false) (c.stage-staged.ensures.flat c.if-failed.false) _ _ c.find_losers-losers.ensures.list c.find_losers-losers.ensures.count c.find_losers-losers.ensures.few _ _ c.stage-staged.ensures.asked c.max-counter.ensures _ c.accept-accepted.ensures.out _ _ _ c.if-out-ne0.true c.accept-accepted.ensures.back
 
 pub install-held-requires : goal.install-held-requires
 install-held-requires c =
-    let all = install_fits c.args.plan.now c.args.geometry c.args.k (lent (dev c.args.bytes.now c.args.phys.now c.args.place) (bufs c.args.pool c.args.nums.now c.args.names.now c.args.dirs.now)) c.requires (omega (arith, c.if-cap-n.false)) (omega (arith, c.if-phys-n.false)) _ c.stage-staged.ensures.place (sym c.stage-staged.ensures.failed ∙ c.if-failed.false) _ _ (c.stage-staged.ensures.rows c.if-failed.false) (c.stage-staged.ensures.flat c.if-failed.false) _ _ c.find_losers-losers.ensures.list c.find_losers-losers.ensures.count c.find_losers-losers.ensures.few _ _ c.stage-staged.ensures.asked c.later-counter.ensures _ c.accept-accepted.ensures.out c.if-out-ne0.false _ _ _ _ c.accept-accepted.ensures.taken in
+    let all = install_fits c.args.plan.now c.args.geometry c.args.k (lent (dev c.args.bytes.now c.args.phys.now c.args.place) (bufs c.args.pool c.args.nums.now c.args.names.now c.args.dirs.now)) c.requires (omega (arith, c.if-cap-n.false)) (omega (arith, c.if-phys-n.false)) _ c.stage-staged.ensures.place (sym c.stage-staged.ensures.failed ∙ c.if-failed.false) _ _ (c.stage-staged.ensures.rows c.if-failed.false) (c.stage-staged.ensures.flat c.if-failed.false) _ _ c.find_losers-losers.ensures.list c.find_losers-losers.ensures.count c.find_losers-losers.ensures.few _ _ c.stage-staged.ensures.asked c.max-counter.ensures _ c.accept-accepted.ensures.out c.if-out-ne0.false _ _ _ _ c.accept-accepted.ensures.taken in
     record { flat_2 = all.0; count_bound = all.1 }
 
 pub drain-drained-requires : goal.drain-drained-requires
@@ -63,7 +63,7 @@ drain-drained-requires c =
     (c.stage-staged.ensures.rows c.if-failed.false)
     (c.stage-staged.ensures.flat c.if-failed.false) _ _ c.find_losers-losers.ensures.list
     c.find_losers-losers.ensures.count c.find_losers-losers.ensures.few _ _
-    c.stage-staged.ensures.asked c.later-counter.ensures _ c.accept-accepted.ensures.out
+    c.stage-staged.ensures.asked c.max-counter.ensures _ c.accept-accepted.ensures.out
     c.if-out-ne0.false _ _ _ _ c.accept-accepted.ensures.taken _ _ _
     c.install-held.ensures.pool c.install-held.ensures.rows
     c.install-held.ensures.flat in
@@ -93,7 +93,7 @@ returns c =
     (c.stage-staged.ensures.rows c.if-failed.false)
     (c.stage-staged.ensures.flat c.if-failed.false) _ _ c.find_losers-losers.ensures.list
     c.find_losers-losers.ensures.count c.find_losers-losers.ensures.few _ _
-    c.stage-staged.ensures.asked c.later-counter.ensures _ c.accept-accepted.ensures.out
+    c.stage-staged.ensures.asked c.max-counter.ensures _ c.accept-accepted.ensures.out
     c.if-out-ne0.false _ _ _ _ c.accept-accepted.ensures.taken _ _ _
     c.install-held.ensures.pool c.install-held.ensures.rows
     c.install-held.ensures.flat _ c.drain-drained.ensures

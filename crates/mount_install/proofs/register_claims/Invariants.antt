@@ -1,10 +1,6 @@
 -- Carried by the record `Going`: registering what is left gives the whole.
-use Prim.Native.Nat.{◌-◌}
 use Rattle.mount_install.proofs.Walks.{Going}
 use Rattle.mount_install.proofs.register_claims.Given as goal
 
 abbrev pub invariant-loop-i : goal.invariant-loop-i
 invariant-loop-i l = Going l.nums l.names l.cap l.n l.m l.dir_cap l.d l.initial.dirs l.dirs l.e l.i
-
-abbrev pub decreases-loop-i : goal.decreases-loop-i
-decreases-loop-i l = l.m - l.i

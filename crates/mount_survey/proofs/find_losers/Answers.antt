@@ -1,14 +1,15 @@
 -- The invariant `Finding`: the losers so far, and those of the rows ahead on top of the holders so far, are the losers.
-use mathlib.Core.Path.{sym}
+use mathlib.Core.Path.{sym, refl}
 use Rattle.slot_rows.proofs.InBuffers.{length_rows}
 use Rattle.mount_survey.proofs.Finding.{finding_start, finding_same, finding_more, finding_done}
 use native.Mathlib.Omega.{arith}
 use Rattle.mount_survey.proofs.find_losers.Goals as goal
+use Rattle.mount_survey.proofs.find_losers.Goals.{then-l-m, else-l-m}
 
 pub loop-i-init : goal.loop-i-init
 loop-i-init c =
     let pre = c.requires in
-    finding_start _ _ _ (length_rows _ _ _) (omega (arith, pre.0.few)) _ _ pre.1 c.zeros-lost.ensures c.zeros-list.ensures
+    finding_start _ _ _ (length_rows _ _ _) (omega (arith, pre.0.few)) _ _ pre.1 refl refl
 
 pub slice_bounds-loser-end : goal.slice_bounds-loser-end
 slice_bounds-loser-end c =
@@ -38,13 +39,15 @@ overflow_add-count c =
     let pre = c.requires in
     omega (arith, pre.0.few, pre.2, c.loop-i.invariant.few)
 
-pub loop-i-preserved-then-l-m : goal.loop-i-preserved-then-l-m
-loop-i-preserved-then-l-m c =
-    finding_more _ _ _ (length_rows _ _ _) (omega (arith, c.requires.0.few)) _ _ _ _ _ c.loop-i.invariant c.loop-i-test.true c.loser-l.ensures c.if-l-m.true
-
 pub loop-i-preserved : goal.loop-i-preserved
 loop-i-preserved c =
-    finding_same _ _ _ (length_rows _ _ _) (omega (arith, c.requires.0.few)) _ _ _ _ _ c.loop-i.invariant c.loop-i-test.true c.loser-l.ensures c.if-l-m.false
+    let all = length_rows _ _ _ in
+    elim c.if-l-m.branch [
+      | then-l-m w ↦ rw (w.lost-is, w.list-is, w.count-is)
+          (finding_more _ _ _ all (omega (arith, c.requires.0.few)) _ _ _ _ _ c.loop-i.invariant c.loop-i-test.true c.loser-l.ensures w.if-l-m.true)
+      | else-l-m w ↦ rw (w.lost-is, w.list-is, w.count-is)
+          (finding_same _ _ _ all (omega (arith, c.requires.0.few)) _ _ _ _ _ c.loop-i.invariant c.loop-i-test.true c.loser-l.ensures w.if-l-m.false)
+    ]
 
 pub returns : goal.returns
 returns c =

@@ -19,25 +19,25 @@ stage_slot-s-requires c =
 
 pub unstage-requires : goal.unstage-requires
 unstage-requires c =
-    stages_held _ _ _ _ _ _ _ _ _ _ _ _ c.loop-i-test.true _ _ _ _ _ _ c.loop-i.invariant (c.stage_slot-s.ensures.place, (c.stage_slot-s.ensures.failed, (c.stage_slot-s.ensures.asked, (c.stage_slot-s.ensures.rows, (c.stage_slot-s.ensures.flat, c.stage_slot-s.ensures.kept))))) c.if-failed.true
+    stages_held _ _ _ _ _ _ _ _ _ _ _ _ c.loop-i-test.true _ _ _ _ _ _ c.loop-i.invariant (c.stage_slot-s.ensures.place, (c.stage_slot-s.ensures.failed, (c.stage_slot-s.ensures.asked, (c.stage_slot-s.ensures.rows, (c.stage_slot-s.ensures.flat, c.stage_slot-s.ensures.kept))))) c.if-s.true
 
-pub shape_of-nums-then-failed : goal.shape_of-nums-then-failed
-shape_of-nums-then-failed c =
+pub shape_of-nums-then-s : goal.shape_of-nums-then-s
+shape_of-nums-then-s c =
     omega (arith, nums_long _ _ _ _ c.loop-i.invariant.flat, nums_long _ _ _ _ c.requires.shape.1)
 
-pub shape_of-names-then-failed : goal.shape_of-names-then-failed
-shape_of-names-then-failed c =
+pub shape_of-names-then-s : goal.shape_of-names-then-s
+shape_of-names-then-s c =
     omega (arith, names_long _ _ _ _ c.loop-i.invariant.flat, names_long _ _ _ _ c.requires.shape.1)
 
-pub returns-then-failed : goal.returns-then-failed
-returns-then-failed c =
+pub returns-then-s : goal.returns-then-s
+returns-then-s c =
     let unstage = c.unstage in let all = stages_stop _ _ _ _ _ _ _ _ _ _ _ _ c.loop-i-test.true _ _ _ _ _ _ c.loop-i.invariant
-    (c.stage_slot-s.ensures.place, (c.stage_slot-s.ensures.failed, (c.stage_slot-s.ensures.asked, (c.stage_slot-s.ensures.rows, (c.stage_slot-s.ensures.flat, c.stage_slot-s.ensures.kept))))) _ _ c.if-failed.true c.requires.shape.1 unstage.ensures.nums unstage.ensures.names in
+    (c.stage_slot-s.ensures.place, (c.stage_slot-s.ensures.failed, (c.stage_slot-s.ensures.asked, (c.stage_slot-s.ensures.rows, (c.stage_slot-s.ensures.flat, c.stage_slot-s.ensures.kept))))) _ _ c.if-s.true c.requires.shape.1 unstage.ensures.nums unstage.ensures.names in
     record { place = all.0; failed = all.1.0; asked = all.1.1.0; rows = all.1.1.1.0; flat = all.1.1.1.1.0; kept = all.1.1.1.1.1 }
 
 pub loop-i-preserved : goal.loop-i-preserved
 loop-i-preserved c =
-    stages_next _ _ _ _ _ _ _ _ _ _ _ _ c.loop-i-test.true _ _ _ _ _ _ c.loop-i.invariant (c.stage_slot-s.ensures.place, (c.stage_slot-s.ensures.failed, (c.stage_slot-s.ensures.asked, (c.stage_slot-s.ensures.rows, (c.stage_slot-s.ensures.flat, c.stage_slot-s.ensures.kept))))) c.if-failed.false
+    stages_next _ _ _ _ _ _ _ _ _ _ _ _ c.loop-i-test.true _ _ _ _ _ _ c.loop-i.invariant (c.stage_slot-s.ensures.place, (c.stage_slot-s.ensures.failed, (c.stage_slot-s.ensures.asked, (c.stage_slot-s.ensures.rows, (c.stage_slot-s.ensures.flat, c.stage_slot-s.ensures.kept))))) c.if-s.false
 
 pub shape_of-nums : goal.shape_of-nums
 shape_of-nums c =
