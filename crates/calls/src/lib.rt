@@ -10,7 +10,7 @@ ghost use Rattle.calls_gate.specs.Table.{refusal_of};
 ghost use Rattle.calls_gate.specs.Replies.{came, replies};
 ghost use Rattle.calls_gate.specs.Calls.{inner_m, call_p};
 
-use calls_gate::{Call, Reply, Told};
+use calls_gate::{Call, NOTHING, Reply, Told};
 use calls_path::Went;
 use device::{Geometry, Place};
 use limits::{DIR_WIDTH, ROW_WIDTH};
@@ -69,11 +69,8 @@ fn inner(
             return Went {
                 out: d.out,
                 told: Told {
-                    slot: 0,
-                    generation: 0,
-                    len: 0,
                     count: d.count,
-                    yes: false,
+                    ..NOTHING
                 },
                 place: after,
                 pool: pool,
@@ -107,11 +104,8 @@ fn inner(
             return Went {
                 out: d.out,
                 told: Told {
-                    slot: 0,
-                    generation: 0,
                     len: d.len,
-                    count: 0,
-                    yes: false,
+                    ..NOTHING
                 },
                 place: place,
                 pool: pool,

@@ -36,6 +36,7 @@ pub enum Answer {
 }
 
 // The specification's number of an answer.
+#[tactic(auto, unfolding(crate::specs::Answers::number_of))]
 pub fn number(answer: Answer) -> u8
     ensures { result ≡ number_of answer }
 {
@@ -58,6 +59,7 @@ pub fn number(answer: Answer) -> u8
 }
 
 // The answer of a number up to 13.
+#[tactic(auto, unfolding(crate::specs::Answers::answer_of))]
 pub fn answer_of(out: u8) -> Answer
     ensures { result ≡ answer_of out }
 {
@@ -150,6 +152,15 @@ pub struct Told {
     pub yes: bool,
 }
 
+// What a call tells that tells nothing.
+pub const NOTHING: Told = Told {
+    slot: 0,
+    generation: 0,
+    len: 0,
+    count: 0,
+    yes: false,
+};
+
 // What a call comes to: its answer, what it tells, and the place and the record after it.
 #[derive(Clone, Copy)]
 pub struct Reply {
@@ -186,27 +197,15 @@ pub fn takes_of(call: Call) -> Takes
     ensures { result ≡ takes_of call }
 {
     match call {
-        Call::Mount { slots } => row(true, false, false, false),
-        Call::Adopt { slots } => row(false, false, false, false),
-        Call::OpenWrite { how } => row(false, true, false, true),
+        Call::Mount { .. } => row(true, false, false, false),
+        Call::Adopt { .. } => row(false, false, false, false),
+        Call::OpenWrite { .. } => row(false, true, false, true),
         Call::OpenRead => row(false, true, false, false),
-        Call::ReadAt {
-            slot,
-            generation,
-            at,
-        } => row(false, false, false, false),
-        Call::WriteAt {
-            slot,
-            generation,
-            at,
-        } => row(false, false, false, true),
-        Call::SetLen {
-            slot,
-            generation,
-            len,
-        } => row(false, false, false, true),
-        Call::FileLen { slot, generation } => row(false, false, false, false),
-        Call::Sync { slot, generation } => row(false, false, false, true),
+        Call::ReadAt { .. } => row(false, false, false, false),
+        Call::WriteAt { .. } => row(false, false, false, true),
+        Call::SetLen { .. } => row(false, false, false, true),
+        Call::FileLen { .. } => row(false, false, false, false),
+        Call::Sync { .. } => row(false, false, false, true),
         Call::SyncDir => row(false, true, false, true),
         Call::Rename => row(false, true, true, true),
         Call::RemoveFile => row(false, true, false, true),
@@ -241,13 +240,11 @@ fn rows_ok(nums: &[u64], names: &[u8], dirs: &[u8]) -> bool
 }
 
 // Whether a run is text, where it is a path.
+#[tactic(auto, unfolding(crate::specs::Table::text_if))]
 fn path_ok(asked: bool, path: &[u8]) -> bool
     ensures { result ≡ text_if asked path.now }
 {
-    if asked {
-        return text::is_text(path);
-    }
-    true
+    !asked || text::is_text(path)
 }
 
 // The number of the first refusal, and 0 where there is none.
@@ -300,13 +297,7 @@ pub fn silent(answer: Answer, place: Place, pool: Pool) -> Reply
 {
     Reply {
         answer: answer,
-        told: Told {
-            slot: 0,
-            generation: 0,
-            len: 0,
-            count: 0,
-            yes: false,
-        },
+        told: NOTHING,
         place: place,
         pool: pool,
     }

@@ -11,7 +11,7 @@ ghost use Rattle.calls_gate.specs.Replies.{came};
 ghost use Rattle.calls_gate.specs.Calls.{inner_m};
 ghost use Rattle.calls_path.specs.Quiet.{quietly};
 
-use calls_gate::{Call, Told};
+use calls_gate::{Call, NOTHING, Told};
 use device::{Geometry, Place};
 use pool_state::Pool;
 
@@ -30,13 +30,7 @@ pub fn quiet(out: u8, place: Place, pool: Pool) -> Went
 {
     Went {
         out: out,
-        told: Told {
-            slot: 0,
-            generation: 0,
-            len: 0,
-            count: 0,
-            yes: false,
-        },
+        told: NOTHING,
         place: place,
         pool: pool,
     }
@@ -78,8 +72,7 @@ pub fn on_path(
                     slot: d.slot,
                     generation: d.generation,
                     len: d.len,
-                    count: 0,
-                    yes: false,
+                    ..NOTHING
                 },
                 place: after,
                 pool: left,
@@ -92,9 +85,7 @@ pub fn on_path(
                 told: Told {
                     slot: d.slot,
                     generation: d.generation,
-                    len: 0,
-                    count: 0,
-                    yes: false,
+                    ..NOTHING
                 },
                 place: place,
                 pool: pool,
@@ -133,11 +124,8 @@ pub fn on_path(
             return Went {
                 out: d.out,
                 told: Told {
-                    slot: 0,
-                    generation: 0,
-                    len: 0,
                     count: d.size,
-                    yes: false,
+                    ..NOTHING
                 },
                 place: place,
                 pool: pool,
@@ -148,11 +136,8 @@ pub fn on_path(
             return Went {
                 out: 0,
                 told: Told {
-                    slot: 0,
-                    generation: 0,
-                    len: 0,
-                    count: 0,
                     yes: d,
+                    ..NOTHING
                 },
                 place: place,
                 pool: pool,
@@ -163,11 +148,9 @@ pub fn on_path(
             return Went {
                 out: d.out,
                 told: Told {
-                    slot: 0,
-                    generation: 0,
                     len: d.len,
-                    count: 0,
                     yes: d.is_dir,
+                    ..NOTHING
                 },
                 place: place,
                 pool: pool,

@@ -17,6 +17,7 @@ ghost use Rattle.inner_open.specs.Files.{room_for, binds, handle, open_read_m, r
 use device::{Geometry, Place};
 use limits::{LAST_COUNTER, MAX_PATH};
 use pool_state::Pool;
+use pool_steps::Done;
 
 // The number of open_read, and the handle.
 #[derive(Clone, Copy)]
@@ -33,14 +34,6 @@ pub struct Writer {
     pub slot: usize,
     pub generation: u64,
     pub len: u64,
-    pub place: Place,
-    pub pool: Pool,
-}
-
-// The number of a call, and the place and the record after it.
-#[derive(Clone, Copy)]
-pub struct Done {
-    pub out: u8,
     pub place: Place,
     pub pool: Pool,
 }

@@ -18,10 +18,9 @@ ghost use Rattle.inner_rename.specs.Rename.{stopped, front_m, rebind_m, vacated_
 
 use device::{Geometry, Place};
 use header::Header;
-use inner_open::Done;
 use limits::MAX_PATH;
 use pool_state::Pool;
-use pool_steps::Stepped;
+use pool_steps::{Done, Stepped};
 
 // The number of a rename that ends before the device, or that it goes on, with the slot of `from` and that of `to`, which is the count of
 // slots where no file has that path.

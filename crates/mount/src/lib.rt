@@ -13,15 +13,7 @@ ghost use Rattle.mount.specs.Mount.{drain, Due, adopt_m, empty_state, mount_m, z
 
 use device::{Geometry, Place};
 use pool_state::{Chosen, Pool};
-use pool_steps::Stepped;
-
-// The number that an adoption came to, the place after it, and the pool's record.
-#[derive(Clone, Copy)]
-pub struct Adopted {
-    pub out: u8,
-    pub place: Place,
-    pub pool: Pool,
-}
+use pool_steps::{Done, Stepped};
 
 // Releases the losers in their order; a release that fails is passed over.
 pub fn drain(
@@ -68,7 +60,7 @@ pub fn adopt(
     dirs: &mut [u8],
     pool: Pool,
     k: usize,
-) -> Adopted
+) -> Done
     requires { Ready geometry (lent (dev bytes.old phys.old place) (bufs pool nums.old names.old dirs.old)) }
     ensures { only result.out (after bytes.new phys.new result.place nums.new names.new dirs.new result.pool)
         ≡ flat_o (adopt_m plan.now geometry k (view_w (before bytes.old phys.old place nums.old names.old dirs.old pool))) }
@@ -76,14 +68,14 @@ pub fn adopt(
     let cap = pool.chosen.rows;
     let n = pool.held;
     if cap - n < k {
-        return Adopted {
+        return Done {
             out: 12,
             place: place,
             pool: pool,
         };
     }
     if phys.len() - n < k {
-        return Adopted {
+        return Done {
             out: 12,
             place: place,
             pool: pool,
@@ -93,7 +85,7 @@ pub fn adopt(
     let at = staged.place;
     let failed = staged.failed;
     if failed {
-        return Adopted {
+        return Done {
             out: 10,
             place: at,
             pool: pool,
@@ -108,7 +100,7 @@ pub fn adopt(
     let accepted = mount_install::accept(nums, names, dirs, pool, m, counter, count);
     let out = accepted.out;
     if out != 0 {
-        return Adopted {
+        return Done {
             out: out,
             place: at,
             pool: pool,
@@ -121,7 +113,7 @@ pub fn adopt(
     );
     let end = drained.place;
     let last = drained.pool;
-    Adopted {
+    Done {
         out: 0,
         place: end,
         pool: last,
@@ -171,7 +163,7 @@ pub fn mount_rows(
     dirs: &mut [u8],
     chosen: Chosen,
     k: usize,
-) -> Adopted
+) -> Done
     requires shape { Shape geometry bytes.old phys.old × (chosen.rows ≤ 64) × (chosen.dir_rows ≤ 256) }
     requires nums_len { (length nums.old ≡ chosen.rows * row_width)
         × (length names.old ≡ chosen.rows * max_path)
@@ -189,7 +181,7 @@ pub fn mount_rows(
     let out = adopted.out;
     if out != 0 {
         let at = adopted.place;
-        return Adopted {
+        return Done {
             out: out,
             place: at,
             pool: zero(),

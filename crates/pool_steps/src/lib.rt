@@ -25,6 +25,14 @@ pub struct Stepped {
     pub pool: Pool,
 }
 
+// The number of a call, and the place and the record after it.
+#[derive(Clone, Copy)]
+pub struct Done {
+    pub out: u8,
+    pub place: Place,
+    pub pool: Pool,
+}
+
 // Writes the slot's free header under a generation, and cuts its file to nothing.
 pub fn free_slot(
     bytes: &mut [u8],

@@ -182,7 +182,7 @@ fn change_slot(
     place: Place,
     script: &[u8],
     op: Op,
-) -> SlotCame
+) -> SlotCame<u8>
     requires { Held script.now op }
     ensures { slot_done result.told (dev_after bytes.new phys.new result.place)
         ≡ change_slot plan.now geometry op (run_in script.now op.first) (dev_before bytes.old phys.old place) }

@@ -19,17 +19,10 @@ pub struct SlotCount {
     pub count: usize,
 }
 
-// The same, with the place after it.
+// What a call came to, with the place after it: a read's count, any other call's number.
 #[derive(Clone, Copy)]
-pub struct SlotGot {
-    pub told: SlotCount,
-    pub place: Place,
-}
-
-// What any other call came to: its number, and the place after it.
-#[derive(Clone, Copy)]
-pub struct SlotCame {
-    pub told: u8,
+pub struct SlotCame<T> {
+    pub told: T,
     pub place: Place,
 }
 
@@ -163,20 +156,20 @@ pub fn read_by_value(
     slot: usize,
     at: u64,
     buf: &mut [u8],
-) -> SlotGot
+) -> SlotCame<SlotCount>
     ensures { slot_read result.told.number result.told.count buf.new (dev_before bytes.now phys.now result.place)
         ≡ read_slot_m plan.now geometry slot at buf.old (dev_before bytes.now phys.now place) }
 {
     let number = refusal(bytes, phys, geometry, &[], slot);
     if number != 0 {
-        return SlotGot {
+        return SlotCame {
             told: SlotCount { number, count: 0 },
             place,
         };
     }
     let got = device::data_read(bytes, phys, geometry, plan, place, slot, at, buf);
     let after = got.place;
-    SlotGot {
+    SlotCame {
         told: SlotCount {
             number: after.last,
             count: got.count,
@@ -195,7 +188,7 @@ pub fn write_by_value(
     slot: usize,
     at: u64,
     src: &[u8],
-) -> SlotCame
+) -> SlotCame<u8>
     ensures { slot_done result.told (dev_after bytes.new phys.new result.place)
         ≡ write_slot_m plan.now geometry slot at src.now (dev_before bytes.old phys.old place) }
 {
@@ -225,7 +218,7 @@ pub fn sync_by_value(
     path: &[u8],
     len: u64,
     generation: u64,
-) -> SlotCame
+) -> SlotCame<u8>
     ensures { slot_done result.told (dev_after bytes.new phys.new result.place)
         ≡ sync_slot_m plan.now geometry slot in_use path.now len generation (dev_before bytes.old phys.old place) }
 {
@@ -257,7 +250,7 @@ pub fn flush_by_value(
     plan: &[u8],
     place: Place,
     slot: usize,
-) -> SlotCame
+) -> SlotCame<u8>
     ensures { slot_done result.told (dev_before bytes.now phys.now result.place)
         ≡ flush_slot_m plan.now geometry slot (dev_before bytes.now phys.now place) }
 {
@@ -284,7 +277,7 @@ pub fn truncate_by_value(
     place: Place,
     slot: usize,
     len: u64,
-) -> SlotCame
+) -> SlotCame<u8>
     ensures { slot_done result.told (dev_after bytes.new phys.new result.place)
         ≡ truncate_slot_m plan.now geometry slot len (dev_before bytes.old phys.old place) }
 {
