@@ -321,8 +321,7 @@ pub fn refuse(
     let takes = takes_of(call);
     if takes.mounts {
         slot_rows::clear_rows(nums, names);
-        let d = dirs.len();
-        slot_rows::zero_in(dirs, 0, d);
+        dirs.fill(0);
         let zero = mount::zero();
         return silent(answer, place, zero);
     }

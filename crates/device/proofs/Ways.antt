@@ -40,22 +40,6 @@ grown_none base phys to d h =
 
 -- ---- the plan
 
-pub stops_one : (byte : ℕ) → byte ≡ 1 → stops byte ≡ true
-unfolding stops
-stops_one byte e = rw (eq-eqb byte 1 e)
-
-pub stops_two : (byte : ℕ) → (byte ≡ 1 → ⊥) → byte ≡ 2 → stops byte ≡ true
-unfolding stops
-stops_two byte n e = rw (ne_eqb byte 1 n, eq-eqb byte 2 e)
-
-pub stops_not : (byte : ℕ) → (byte ≡ 1 → ⊥) → (byte ≡ 2 → ⊥) → stops byte ≡ false
-unfolding stops
-stops_not byte n m = rw (ne_eqb byte 1 n, ne_eqb byte 2 m)
-
-pub flush_out : (plan : List ℕ) (p : Place) {r : Place} {byte : ℕ} (t : Bool) → byte ≡ turn plan p → stops byte ≡ t → r ≡ onward plan (cond t 10 0) p → r ≡ flushed plan p
-unfolding flushed
-flush_out plan p t e q f = f ∙ ap (λ (x : Bool). onward plan (cond x 10 0) p) (sym q ∙ ap stops e)
-
 -- a flush that did not fail
 pub flush_ok : (plan : List ℕ) (p : Place) {r : Place} → r ≡ flushed plan p → r.last ≡ 0 → (stops (turn plan p) ≡ false) × (r ≡ onward plan 0 p)
 unfolding flushed onward

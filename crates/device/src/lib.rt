@@ -5,8 +5,7 @@
 // beside the place in the plan.
 #![tactic(auto)]
 
-ghost use Rattle.std.specs.Prelude.{◌≡◌, ◌+◌, ◌-◌, ◌*◌, ◌≤◌, ◌<◌, min, max, length, get_or, set, replicate, leb};
-ghost use Rattle.lists.specs.Runs.{all_of};
+ghost use Rattle.std.specs.Prelude.{◌≡◌, ◌+◌, ◌-◌, ◌*◌, ◌≤◌, ◌<◌, min, length, get_or};
 ghost use Rattle.le.specs.Le.{laid};
 ghost use Rattle.device.specs.Device.{Shape, shape_b, Slotted, dev_before, dev_after, turn, onward, share, short, grown};
 ghost use Rattle.device.specs.Device.{stored_bytes, stored_phys, read, read_m, write_m, flushed};
@@ -57,10 +56,12 @@ pub fn shape_ok(bytes: &[u8], phys: &[u64], geometry: Geometry) -> bool
     if bytes.len() != size * phys.len() {
         return false;
     }
-    lengths_ok(phys, size)
+    let top = size as u64;
+    phys.iter().all(|x| *x <= top)
 }
 
 // Reads the slot's header block: its first 512 bytes, as far as they lie below the physical length.
+#[tactic(auto, unfolding(crate::specs::Device::header_read_m))]
 pub fn header_read(
     bytes: &[u8],
     phys: &[u64],
@@ -79,6 +80,7 @@ pub fn header_read(
 }
 
 // Writes the slot's header block.
+#[tactic(auto, unfolding(crate::specs::Device::header_write_m))]
 pub fn header_write(
     bytes: &mut [u8],
     phys: &mut [u64],
@@ -172,43 +174,25 @@ pub fn data_truncate(
 }
 
 // Flushes a slot: over memory there is nothing to do, but the plan may have it fail.
+#[tactic(auto, unfolding(crate::specs::Device::flushed, crate::specs::Device::stops))]
 pub fn flush(plan: &[u8], place: Place) -> Place
     ensures { result ≡ flushed plan.now place }
 {
     let byte = turn_of(plan, place);
-    if byte == 1 {
-        return next(plan, place, 10);
-    }
-    if byte == 2 {
-        return next(plan, place, 10);
-    }
-    next(plan, place, 0)
-}
-
-// Each physical length is at most the slot's size.
-fn lengths_ok(phys: &[u64], size: usize) -> bool
-    ensures { result ≡ all_of (λ i. leb (get_or phys.now i 0) size) 0 (length phys.now) }
-{
-    let top = size as u64;
-    let mut i = 0;
-    while i < phys.len() {
-        if top < phys[i] {
-            return false;
-        }
-        i += 1;
-    }
-    true
+    let last = if byte == 1 || byte == 2 { 10 } else { 0 };
+    next(plan, place, last)
 }
 
 // The plan's byte for the next call; 0 at or past the plan's end.
+#[tactic(auto, unfolding(crate::specs::Device::turn))]
 fn turn_of(plan: &[u8], place: Place) -> u8
     ensures { result ≡ turn plan.now place }
 {
-    let i = place.at;
-    if i < plan.len() { plan[i] } else { 0 }
+    plan.get(place.at).copied().unwrap_or(0)
 }
 
 // The place after a call that came to `last`.
+#[tactic(auto, unfolding(crate::specs::Device::onward))]
 fn next(plan: &[u8], place: Place, last: u8) -> Place
     ensures { result ≡ onward plan.now last place }
 {
@@ -236,16 +220,11 @@ fn file_pos(geometry: Geometry, at: u64) -> usize
 }
 
 // How many bytes a read or a write moves, of n that it could, under this byte of the plan.
+#[tactic(auto, unfolding(crate::specs::Device::share))]
 fn share_of(byte: u8, n: usize) -> usize
     ensures { result ≡ share byte n }
 {
     if byte == 2 { n / 2 } else { n }
-}
-
-fn least(a: usize, b: usize) -> usize
-    ensures { result ≡ min a b }
-{
-    if a <= b { a } else { b }
 }
 
 // Reads into dst from place `pos` of the slot on.
@@ -278,7 +257,7 @@ fn read_at(
             place: next(plan, place, 0),
         };
     }
-    let n = share_of(byte, least(dst.len(), end - pos));
+    let n = share_of(byte, dst.len().min(end - pos));
     let size = geometry.size;
     let from = slot * size + pos;
     let upto = from + n;
@@ -314,13 +293,14 @@ fn write_at(
     if size < pos {
         return next(plan, place, 10);
     }
-    let n = share_of(byte, least(src.len(), size - pos));
+    let n = share_of(byte, src.len().min(size - pos));
     store(bytes, phys, size, slot, pos, &src[..n]);
     let last = short_of(n, src.len());
     next(plan, place, last)
 }
 
 // 11 where n bytes are fewer than were asked.
+#[tactic(auto, unfolding(crate::specs::Device::short))]
 fn short_of(n: usize, asked: usize) -> u8
     ensures { result ≡ short n asked }
 {
@@ -346,29 +326,21 @@ fn store(bytes: &mut [u8], phys: &mut [u64], size: usize, slot: usize, pos: usiz
 }
 
 // Zeroes the places `from` up to `to` of the slot that starts at base; none where `to` comes first.
+#[tactic(auto, using(crate::proofs::Ways::zeroed_back, crate::proofs::Ways::grown_none))]
 fn grow(bytes: &mut [u8], base: usize, from: usize, to: usize)
     requires { (base + from ≤ length bytes.old) × (base + to ≤ length bytes.old) }
     ensures { bytes.new ≡ grown base from to bytes.old }
 {
     if from < to {
-        zero(&mut bytes[base + from..base + to]);
+        bytes[base + from..base + to].fill(0);
     }
 }
 
 // Lays src over dst from `at` on.
+#[tactic(auto, using(crate::proofs::Ways::copied_back))]
 fn lay(dst: &mut [u8], at: usize, src: &[u8])
     requires { at + length src.now ≤ length dst.old }
     ensures { dst.new ≡ laid dst.old at src.now }
 {
     dst[at..at + src.len()].copy_from_slice(src);
-}
-
-fn zero(dst: &mut [u8])
-    ensures { dst.new ≡ replicate (length dst.old) 0 }
-{
-    let mut i = 0;
-    while i < dst.len() {
-        dst[i] = 0;
-        i += 1;
-    }
 }

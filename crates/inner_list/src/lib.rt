@@ -116,7 +116,7 @@ fn put_entry(path: &[u8], buf: &mut [u8], at: usize, kind: u8)
     let n = path.len();
     buf[at] = kind;
     le::put_at(buf, at + 1, 2, n as u64);
-    slot_rows::copy_in(buf, at + 3, path);
+    buf[at + 3..at + 3 + n].copy_from_slice(path);
 }
 
 // Writes the entries of these parts, one behind the other, from index at on, and returns the index behind them.

@@ -1,27 +1,20 @@
--- A loop that stores a run of elements, by turns: what is still to be stored makes the whole of it.
-use Rattle.std.specs.Prelude.{◌≡◌, ℕ, suc, ◌+◌, ◌-◌, ◌<◌, ◌≤◌, List, length, drop, replicate, slice_index, slice_set}
-use Rattle.std.proofs.Common.{◌∙◌, append-nil, zero-add, add-one, arith, drop_of_length-le, drop-cons}
+-- A part of a list that was lent, `&mut l[a..b]`, and is back: a run of stores made the whole of it.
+use Rattle.std.specs.Prelude.{◌≡◌, ℕ, ◌+◌, ◌-◌, ◌≤◌, List, ◌++◌, length, take, drop, replicate}
+use Rattle.std.proofs.Common.{arith, append_assoc, length-take, length-drop}
 use Rattle.std.proofs.lemmas.List.{length-replicate}
 use Rattle.std.proofs.lemmas.List.Edits.{sets, sets-eq}
-use Rattle.std.proofs.Math.Seq.{drop-length}
+use Rattle.std.proofs.Math.Seq.{drop-drop}
 
-pub copy_turn : (d s : List ℕ) (at j : ℕ) → j < length s → sets d (at + j) (drop j s) ≡ sets (slice_set d (at + j) (slice_index s j)) (at + (j + 1)) (drop (j + 1) s)
-copy_turn d s at j h = let e : at + (j + 1) ≡ suc (at + j) = omega arith in rw (e, add-one j, drop-cons s j 0 h)
+-- it is back as vs
+pub stored_back : {A : Type 0} (l vs : List A) (a b : ℕ) {ys : List A} → a + length vs ≡ b → b ≤ length l → ys ≡ vs
+    → take a l ++ (ys ++ drop (b - a) (drop a l)) ≡ sets l a vs
+stored_back l vs a b e h q =
+    let n : a + (b - a) ≡ a + length vs = omega arith in
+    rw (q, sets-eq vs l a (omega arith), drop-drop, append_assoc, n)
 
-pub copy_end : (d s : List ℕ) (at j : ℕ) → length s ≤ j → sets d (at + j) (drop j s) ≡ d
-copy_end d s at j h = rw (drop_of_length-le s h)
-
-pub zero_turn : (d : List ℕ) (at n j : ℕ) → j < n → sets d (at + j) (replicate (n - j) 0) ≡ sets (slice_set d (at + j) 0) (at + (j + 1)) (replicate (n - (j + 1)) 0)
-zero_turn d at n j h =
-    let e : at + (j + 1) ≡ suc (at + j) = omega arith in
-    let z : n - j ≡ suc (n - (j + 1)) = omega arith in
-    rw (e, z)
-
-pub zero_end : (d : List ℕ) (at n j : ℕ) → n ≤ j → sets d (at + j) (replicate (n - j) 0) ≡ d
-zero_end d at n j h = let z : n - j ≡ 0 = omega arith in rw z
-
--- zeros over a whole list
-pub zero_all : (l m : List ℕ) → m ≡ sets l 0 (replicate (length l) 0) → m ≡ replicate (length l) 0
-zero_all l m e =
-    let k : length (replicate {A = ℕ} (length l) 0) ≡ length l = length-replicate (length l) 0 in
-    e ∙ sets-eq (replicate (length l) 0) l 0 (omega arith) ∙ rw (k, zero-add, drop-length, append-nil)
+-- it is back as zeros, k of them
+pub zeros_back : (l : List ℕ) (a b k : ℕ) {ys : List ℕ} → a + k ≡ b → b ≤ length l → ys ≡ replicate (length (take (b - a) (drop a l))) 0
+    → take a l ++ (ys ++ drop (b - a) (drop a l)) ≡ sets l a (replicate k 0)
+zeros_back l a b k e h q =
+    let m : length (take (b - a) (drop a l)) ≡ k = simp (length-take, length-drop) (omega arith) in
+    stored_back l (replicate k 0) a b (rw length-replicate e) h (rw m at q)

@@ -1,10 +1,8 @@
 -- Mount is adopt on the pool of no slots: its buffers, and the two ways out.
-use Prim.Native.Nat.{ℕ, ◌+◌, ◌*◌, ◌≤◌}
-use native.Mathlib.Omega.{arith}
+use Prim.Native.Nat.{ℕ, ◌*◌, ◌≤◌}
 use mathlib.Core.Path.{◌≡◌, refl, sym, ap, ap₂, ◌∙◌}
-use mathlib.Core.List.{List, [], append-nil}
-use lib.ListN.{length, replicate, length-replicate}
-use lib.Seq.{sets, sets-eq, drop-length}
+use mathlib.Core.List.{List, []}
+use lib.ListN.{replicate}
 use borrow.Author.Tests.{eq-eqb, ne_eqb}
 use Rattle.limits.specs.Limits.{max_path, row_width, dir_width}
 use Rattle.lists.specs.Blocks.{pad}
@@ -41,12 +39,6 @@ names_none cap = (flat_zero cap).names
 -- The buffers with a zero record.
 abbrev blank : Dev → Bufs → Lent
 blank d b = lent d (bufs zero_pool b.nums b.names b.dirs)
-
-pub zeroed : (l m : List ℕ) (n k : ℕ) → length l ≡ n → k ≡ length l → m ≡ sets l 0 (replicate k 0) → m ≡ replicate n 0
-zeroed l m n k e f q =
-    let z : 0 + length (replicate {A = ℕ} k 0) ≡ length l = simp length-replicate (omega arith) in
-    let h : 0 + length (replicate {A = ℕ} k 0) ≤ length l = omega arith in
-    q ∙ sets-eq (replicate k 0) l 0 h ∙ rw (z, drop-length l) (append-nil (replicate k 0) ∙ ap (λ (t : ℕ). replicate t 0) (f ∙ e))
 
 pub empty_is : (h : Chosen) → record { chosen = h; held = 0; dirs = 0; counter = 1; free = 0; queue = replicate 64 0 } ≡ pool_of (empty_state h)
 unfolding pool_of empty_state pad

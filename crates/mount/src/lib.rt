@@ -172,8 +172,7 @@ pub fn mount_rows(
         ≡ mounted (mount_m plan.now geometry chosen k (dev bytes.old phys.old place)) }
 {
     slot_rows::clear_rows(nums, names);
-    let d = dirs.len();
-    slot_rows::zero_in(dirs, 0, d);
+    dirs.fill(0);
     let pool = empty(chosen);
     let adopted = adopt(
         bytes, phys, geometry, plan, place, nums, names, dirs, pool, k,

@@ -27,11 +27,12 @@ pub struct Accepted {
 // ---- put back
 
 // The directory rows from d to e - 1 are zero again.
+#[tactic(auto, using(dir_rows::proofs::InBuffer::dirs_long))]
 pub fn clear_dirs(dirs: &mut [u8], cap: usize, d: usize, e: usize)
     requires { FlatDirs cap e dirs.old × (d ≤ e) }
     ensures { dirs.new ≡ flat_dirs cap (take d (dirs_of dirs.old e)) }
 {
-    slot_rows::zero_in(dirs, d * DIR_WIDTH, (e - d) * DIR_WIDTH);
+    dirs[d * DIR_WIDTH..e * DIR_WIDTH].fill(0);
 }
 
 // ---- the claims' ancestors

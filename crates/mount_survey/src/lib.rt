@@ -174,14 +174,14 @@ fn raised(asked: u64, generation: u64) -> u64
 }
 
 // The slot rows from n to m - 1 are zero again.
+#[tactic(auto, using(slot_rows::proofs::InBuffers::nums_long, slot_rows::proofs::InBuffers::names_long))]
 pub fn unstage(nums: &mut [u64], names: &mut [u8], cap: usize, n: usize, m: usize)
     requires { Flat cap m nums.old names.old × (n ≤ m) }
     ensures nums { nums.new ≡ flat_nums cap (take n (rows_of nums.old names.old m)) }
     ensures names { names.new ≡ flat_names cap (take n (rows_of nums.old names.old m)) }
 {
-    let k = m - n;
-    slot_rows::zero_nums(nums, n * ROW_WIDTH, k * ROW_WIDTH);
-    slot_rows::zero_in(names, n * MAX_PATH, k * MAX_PATH);
+    nums[n * ROW_WIDTH..m * ROW_WIDTH].fill(0);
+    names[n * MAX_PATH..m * MAX_PATH].fill(0);
 }
 
 // ---- losers

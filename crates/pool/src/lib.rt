@@ -44,10 +44,8 @@ fn too_many(place: Place, names: &mut [u8], dirs: &mut [u8], pool: Pool, call: C
 {
     let takes = calls_gate::takes_of(call);
     if takes.mounts {
-        let n = names.len();
-        slot_rows::zero_in(names, 0, n);
-        let d = dirs.len();
-        slot_rows::zero_in(dirs, 0, d);
+        names.fill(0);
+        dirs.fill(0);
         let zero = mount::zero();
         let refused = Answer::WrongShape;
         return calls_gate::silent(refused, place, zero);

@@ -15,53 +15,14 @@ use limits::{MAX_PATH, ROW_WIDTH};
 
 // ---- leaves: runs of cells
 
-// Writes src into dst from index at on.
-pub fn copy_in(dst: &mut [u8], at: usize, src: &[u8])
-    requires { at + length src.now ≤ length dst.old }
-    ensures { dst.new ≡ sets dst.old at src.now }
-{
-    let mut j = 0;
-    while j < src.len() {
-        let o = at + j;
-        dst[o] = src[j];
-        j += 1;
-    }
-}
-
-// Writes n zeros into dst from index at on.
-pub fn zero_in(dst: &mut [u8], at: usize, n: usize)
-    requires { at + n ≤ length dst.old }
-    ensures { dst.new ≡ sets dst.old at (replicate n 0) }
-{
-    let mut j = 0;
-    while j < n {
-        let o = at + j;
-        dst[o] = 0;
-        j += 1;
-    }
-}
-
-// Writes n zeros into nums from index at on.
-pub fn zero_nums(nums: &mut [u64], at: usize, n: usize)
-    requires { at + n ≤ length nums.old }
-    ensures { nums.new ≡ sets nums.old at (replicate n 0) }
-{
-    let mut j = 0;
-    while j < n {
-        let o = at + j;
-        nums[o] = 0;
-        j += 1;
-    }
-}
-
 // Writes src into dst from index at on, zero filled to a width.
 pub fn put_padded(dst: &mut [u8], at: usize, width: usize, src: &[u8])
     requires { (at + width ≤ length dst.old) × (length src.now ≤ width) }
     ensures { dst.new ≡ sets dst.old at (pad width src.now) }
 {
     let n = src.len();
-    copy_in(dst, at, src);
-    zero_in(dst, at + n, width - n);
+    dst[at..at + n].copy_from_slice(src);
+    dst[at + n..at + width].fill(0);
 }
 
 // Writes the four numbers of row i.
@@ -79,6 +40,7 @@ pub fn put_nums(nums: &mut [u64], i: usize, mark: u64, path_len: u64, len: u64, 
 // ---- what a row says
 
 // Number k of row i.
+#[tactic(auto, using(crate::proofs::InBuffers::row_fits_lem, crate::proofs::InBuffers::num_at))]
 fn num(nums: &[u64], names: &[u8], cap: usize, n: usize, i: usize, k: usize) -> u64
     requires { Flat cap n nums.now names.now × (i < n) × (k < 4) }
     ensures { result ≡ get_or (row_nums (at (rows_of nums.now names.now n) i)) k 0 }
@@ -88,6 +50,7 @@ fn num(nums: &[u64], names: &[u8], cap: usize, n: usize, i: usize, k: usize) -> 
 }
 
 // Whether row i is bound.
+#[tactic(auto, using(crate::proofs::Fields::mark_bound))]
 pub fn is_bound(nums: &[u64], names: &[u8], cap: usize, n: usize, i: usize) -> bool
     requires { Flat cap n nums.now names.now × (i < n) }
     ensures { result ≡ is_bound (at (rows_of nums.now names.now n) i) }
@@ -96,6 +59,7 @@ pub fn is_bound(nums: &[u64], names: &[u8], cap: usize, n: usize, i: usize) -> b
 }
 
 // Whether row i is dirty.
+#[tactic(auto, using(crate::proofs::Fields::mark_dirty))]
 pub fn is_dirty(nums: &[u64], names: &[u8], cap: usize, n: usize, i: usize) -> bool
     requires { Flat cap n nums.now names.now × (i < n) }
     ensures { result ≡ is_dirty (at (rows_of nums.now names.now n) i) }
@@ -104,6 +68,7 @@ pub fn is_dirty(nums: &[u64], names: &[u8], cap: usize, n: usize, i: usize) -> b
 }
 
 // The length of row i's path, which starts at byte i * 480 of the names; 0 for an unbound row.
+#[tactic(auto, using(crate::proofs::Fields::num_path))]
 pub fn path_len(nums: &[u64], names: &[u8], cap: usize, n: usize, i: usize) -> usize
     requires { Flat cap n nums.now names.now × (i < n) }
     ensures { result ≡ length (path_of (at (rows_of nums.now names.now n) i)) }
@@ -112,6 +77,7 @@ pub fn path_len(nums: &[u64], names: &[u8], cap: usize, n: usize, i: usize) -> u
 }
 
 // The file length of row i.
+#[tactic(auto, using(crate::proofs::Fields::num_len))]
 pub fn row_len(nums: &[u64], names: &[u8], cap: usize, n: usize, i: usize) -> u64
     requires { Flat cap n nums.now names.now × (i < n) }
     ensures { result ≡ len_of (at (rows_of nums.now names.now n) i) }
@@ -120,6 +86,7 @@ pub fn row_len(nums: &[u64], names: &[u8], cap: usize, n: usize, i: usize) -> u6
 }
 
 // The generation of row i.
+#[tactic(auto, using(crate::proofs::Fields::num_generation))]
 pub fn row_generation(nums: &[u64], names: &[u8], cap: usize, n: usize, i: usize) -> u64
     requires { Flat cap n nums.now names.now × (i < n) }
     ensures { result ≡ gen_of (at (rows_of nums.now names.now n) i) }
@@ -130,6 +97,7 @@ pub fn row_generation(nums: &[u64], names: &[u8], cap: usize, n: usize, i: usize
 // ---- rows made and changed
 
 // The mark of a bound row.
+#[tactic(auto, unfolding(crate::specs::Rows::mark_of))]
 fn mark(dirty: bool) -> u64
     ensures { result ≡ mark_of dirty }
 {
@@ -140,6 +108,7 @@ fn mark(dirty: bool) -> u64
 }
 
 // Binds row i to the path p.
+#[tactic(auto, using(crate::proofs::InBuffers::row_fits_lem))]
 pub fn bind_row(
     nums: &mut [u64],
     names: &mut [u8],
@@ -161,6 +130,7 @@ pub fn bind_row(
 }
 
 // Unbinds row i under a generation: all else of the row becomes zero.
+#[tactic(auto, using(crate::proofs::InBuffers::row_fits_lem))]
 pub fn unbind_row(
     nums: &mut [u64],
     names: &mut [u8],
@@ -175,10 +145,12 @@ pub fn unbind_row(
     ensures flat { Flat cap n nums.new names.new }
 {
     put_nums(nums, i, 0, 0, 0, generation);
-    zero_in(names, i * MAX_PATH, MAX_PATH);
+    let at = i * MAX_PATH;
+    names[at..at + MAX_PATH].fill(0);
 }
 
 // Gives the bound row i a file length and a dirty bit; its path and generation stay.
+#[tactic(auto, using(crate::proofs::InBuffers::row_fits_lem))]
 pub fn set_row_len(
     nums: &mut [u64],
     names: &[u8],
@@ -200,6 +172,7 @@ pub fn set_row_len(
 }
 
 // Makes the bound row i clean.
+#[tactic(auto, unfolding(crate::specs::Rows::cleaned))]
 pub fn clean_row(nums: &mut [u64], names: &[u8], cap: usize, n: usize, i: usize)
     requires { Flat cap n nums.old names.now × (i < n) × (is_bound (at (rows_of nums.old names.now n) i) ≡ true) }
     ensures rows { rows_of nums.new names.now n
@@ -215,15 +188,14 @@ pub fn clear_rows(nums: &mut [u64], names: &mut [u8])
     ensures nums { nums.new ≡ replicate (length nums.old) 0 }
     ensures names { names.new ≡ replicate (length names.old) 0 }
 {
-    let k = nums.len();
-    zero_nums(nums, 0, k);
-    let n = names.len();
-    zero_in(names, 0, n);
+    nums.fill(0);
+    names.fill(0);
 }
 
 // ---- the row of a path
 
 // Whether q spells the path p, whose key is given: paths with two keys are not walked.
+#[tactic(auto, using(path::proofs::Theorems::key_other))]
 fn spells(q: &[u8], p: &[u8], key: u32) -> bool
     requires { key ≡ key_of p.now }
     ensures { result ≡ same_path q.now p.now }
@@ -235,6 +207,7 @@ fn spells(q: &[u8], p: &[u8], key: u32) -> bool
 }
 
 // Whether row i is bound to a path equal to p, whose key is given.
+#[tactic(auto, using(crate::proofs::InBuffers::row_fits_lem, crate::proofs::InBuffers::name_part, crate::proofs::Fields::row_spells, crate::proofs::Finding::holds_unbound))]
 pub fn row_is(nums: &[u64], names: &[u8], cap: usize, n: usize, i: usize, p: &[u8], key: u32) -> bool
     requires { Flat cap n nums.now names.now × (i < n) × (key ≡ key_of p.now) }
     ensures { result ≡ holds p.now (at (rows_of nums.now names.now n) i) }
@@ -254,12 +227,10 @@ pub fn find_row(nums: &[u64], names: &[u8], cap: usize, n: usize, p: &[u8]) -> u
     ensures few { result ≤ n }
 {
     let key = path::key(p);
-    let mut i = 0;
-    while i < n {
+    for i in 0..n {
         if row_is(nums, names, cap, n, i, p, key) {
             return i;
         }
-        i += 1;
     }
     n
 }

@@ -1,13 +1,13 @@
 -- At a mount all is made zero, else all stays.
-use mathlib.Core.Path.{refl}
-use Rattle.mount.proofs.Mounting.{zeroed}
+use Rattle.std.proofs.Common.{rules, ◌≡◌, refl}
+use Rattle.calls_gate.specs.Table.{zeroed}
 use Rattle.pool_state.specs.State.{bufs}
 use Rattle.calls_gate.proofs.Tests.{silent_is, refuses_mount, refuses_other}
 use Rattle.calls_gate.proofs.refuse.Goals as goal
 
 pub returns-then-takes : goal.returns-then-takes
 returns-then-takes c =
-    let z = zeroed c.args.dirs.now _ _ _ refl refl c.zero_in.ensures in record {
+    let z : c.fill.new.self ≡ zeroed c.args.dirs.now = c.fill.ensures.after (search rules) in record {
       told = silent_is _ _ _ _ _ c.silent.ensures c.answer_of-answer.ensures;
       left = refuses_mount _ _ c.takes_of-takes.ensures
           (bufs c.args.pool c.args.nums.now c.args.names.now c.args.dirs.now) _ _ _ _

@@ -4,11 +4,6 @@ use Rattle.device.specs.Device.{data_read_m}
 use Rattle.device.proofs.Ways.{read_clamped}
 use Rattle.device.proofs.data_read.Goals as goal
 
-pub file_pos-pos-requires : goal.file_pos-pos-requires
-file_pos-pos-requires c =
-    let shape = c.requires.shape in
-    (shape.least, shape.most)
-
 pub returns : goal.returns
 unfolding data_read_m
 returns c =

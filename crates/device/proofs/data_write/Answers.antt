@@ -4,11 +4,6 @@ use Rattle.device.specs.Device.{data_write_m}
 use Rattle.device.proofs.Ways.{write_clamped}
 use Rattle.device.proofs.data_write.Goals as goal
 
-pub file_pos-pos-requires : goal.file_pos-pos-requires
-file_pos-pos-requires c =
-    let shape = c.requires.shape in
-    (shape.least, shape.most)
-
 pub returns : goal.returns
 unfolding data_write_m
 returns c =

@@ -1,11 +1,25 @@
 -- One test of the definition after the other; the product is no more than the slice's length where the quotient is at least the count.
-use borrow.Author.Tests.{lt-leb, le-leb, eq-eqb, ne_eqb}
+use borrow.Author.Tests.{lt-leb, le-leb, leb-true, eq-eqb, ne_eqb}
 use native.Mathlib.Nat.{mul-le-mul_left, mul-div-le}
 use native.Mathlib.Omega.{arith}
 use lib.ListN.{length}
+use Rattle.std.specs.Prelude.{IsTrue, ◌↔◌}
+use Rattle.std.proofs.Common.{rules, ◌≡◌, refl, sym, ℕ, ◌<◌, ◌≤◌, Bool, true, false, List, get_or, leb}
+use Rattle.lists.specs.Runs.{all_of, all_at, all_intro}
+use Rattle.std.proofs.iter.runs.Made.{chains}
 use Rattle.device.specs.Device.{shape_b}
 use Rattle.device.proofs.Ways.{quotient_less}
 use Rattle.device.proofs.shape_ok.Goals as goal
+
+-- the lengths are tested one by one
+all_within : (h : List ℕ) (size : ℕ) (b : Bool) → (IsTrue b ↔ ((k : ℕ) → k < length h → get_or h k 0 ≤ size))
+    → b ≡ all_of (λ i. leb (get_or h i 0) size) 0 (length h)
+all_within h size true w = sym (all_intro (λ i. leb (get_or h i 0) size) 0 (length h) (λ j p q. le-leb _ _ (w.0 refl j (omega arith))))
+all_within h size false w = go (all_of (λ i. leb (get_or h i 0) size) 0 (length h)) refl
+  where
+    go : (t : Bool) → all_of (λ i. leb (get_or h i 0) size) 0 (length h) ≡ t → false ≡ t
+    go true e = w.1 (λ k l. leb-true _ _ (all_at (λ i. leb (get_or h i 0) size) 0 (length h) k e (omega arith) (omega arith)))
+    go false e = refl
 
 pub returns-then-size-lt-HEADER : goal.returns-then-size-lt-HEADER
 unfolding shape_b
@@ -44,4 +58,6 @@ returns-then-bytes-size-2 c =
 pub returns : goal.returns
 unfolding shape_b
 returns c =
-    simp (le-leb _ _ c.if-size-lt-HEADER.false, le-leb _ _ c.if-size-gt-LARGEST.false, eq-eqb _ _ c.if-size-ne0.false, eq-eqb _ _ c.if-bytes-size-2.false) c.lengths_ok.ensures
+    let a = c.args in
+    simp (le-leb _ _ c.if-size-lt-HEADER.false, le-leb _ _ c.if-size-gt-LARGEST.false, eq-eqb _ _ c.if-size-ne0.false, eq-eqb _ _ c.if-bytes-size-2.false)
+    (all_within a.phys.now a.geometry.size c.all.result (search (rules, chains)))

@@ -1,6 +1,7 @@
 -- Carried by `entry_put`: three stores, one behind the other, are one.
 use mathlib.Core.Path.{refl}
 use lib.ListN.{length-set}
+use Rattle.lists.specs.Stores.{stored_back}
 use Rattle.inner_list.proofs.Ways.{entry_put}
 use native.Mathlib.Omega.{arith}
 use Rattle.inner_list.proofs.put_entry.Goals as goal
@@ -9,15 +10,7 @@ pub put_at-requires : goal.put_at-requires
 put_at-requires c =
     simp length-set (omega arith)
 
-pub copy_in-requires : goal.copy_in-requires
-copy_in-requires c =
-    omega (
-      arith,
-      c.put_at.auto.dst,
-      (length-set c.args.buf.now c.args.at c.args.kind),
-    )
-
 pub returns : goal.returns
 returns c =
     entry_put c.args.buf.now _ _ _ c.args.path.now c.args.at c.args.kind _
-    c.requires.0 refl refl c.put_at.ensures c.copy_in.ensures
+    c.requires.0 refl refl c.put_at.ensures (stored_back _ _ _ _ refl (omega (arith, c.put_at.auto.dst, length-set c.args.buf.now c.args.at c.args.kind)) c.copy_from_slice.ensures.after)

@@ -1,9 +1,10 @@
 -- One law for each way out: `mount_refused`, `mount_done`.
+use Rattle.std.proofs.Common.{rules}
 use Prim.Native.Nat.{ℕ}
-use mathlib.Core.Path.{refl, ap, ◌∙◌}
+use mathlib.Core.Path.{ap, ◌∙◌}
 use lib.ListN.{replicate}
 use Rattle.device.specs.Device.{dev}
-use Rattle.mount.proofs.Mounting.{zeroed, mount_ready, mount_done, mount_refused}
+use Rattle.mount.proofs.Mounting.{mount_ready, mount_done, mount_refused}
 use Rattle.mount.proofs.mount_rows.Goals as goal
 
 pub adopt-adopted-requires : goal.adopt-adopted-requires
@@ -13,7 +14,7 @@ adopt-adopted-requires c =
     c.requires.shape.2 _ _ _ _ c.empty-pool.ensures
     (c.clear_rows.ensures.nums ∙ ap (λ (n : ℕ). replicate n 0) c.requires.nums_len.0)
     (c.clear_rows.ensures.names ∙ ap (λ (n : ℕ). replicate n 0) c.requires.nums_len.1)
-    (zeroed c.args.dirs.now _ _ _ c.requires.nums_len.2 refl c.zero_in.ensures)
+    (c.fill.ensures.after (search rules) ∙ ap (λ (n : ℕ). replicate n 0) c.requires.nums_len.2)
 
 pub shape_of-nums-then-out-ne0 : goal.shape_of-nums-then-out-ne0
 shape_of-nums-then-out-ne0 c =
@@ -30,7 +31,7 @@ returns-then-out-ne0 c =
     c.requires.shape.2 _ _ _ _ c.empty-pool.ensures
     (c.clear_rows.ensures.nums ∙ ap (λ (n : ℕ). replicate n 0) c.requires.nums_len.0)
     (c.clear_rows.ensures.names ∙ ap (λ (n : ℕ). replicate n 0) c.requires.nums_len.1)
-    (zeroed c.args.dirs.now _ _ _ c.requires.nums_len.2 refl c.zero_in.ensures) _ _
+    (c.fill.ensures.after (search rules) ∙ ap (λ (n : ℕ). replicate n 0) c.requires.nums_len.2) _ _
     c.adopt-adopted.ensures c.if-out-ne0.true _ c.zero.ensures
 
 pub shape_of-nums : goal.shape_of-nums
@@ -48,5 +49,5 @@ returns c =
     c.requires.shape.2 _ _ _ _ c.empty-pool.ensures
     (c.clear_rows.ensures.nums ∙ ap (λ (n : ℕ). replicate n 0) c.requires.nums_len.0)
     (c.clear_rows.ensures.names ∙ ap (λ (n : ℕ). replicate n 0) c.requires.nums_len.1)
-    (zeroed c.args.dirs.now _ _ _ c.requires.nums_len.2 refl c.zero_in.ensures) _ _
+    (c.fill.ensures.after (search rules) ∙ ap (λ (n : ℕ). replicate n 0) c.requires.nums_len.2) _ _
     c.adopt-adopted.ensures c.if-out-ne0.false

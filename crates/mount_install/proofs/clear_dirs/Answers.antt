@@ -1,21 +1,13 @@
 -- Carried by `dirs_cut`: zeros over the last rows leave the first ones.
+use Rattle.std.proofs.Common.{rules, arith, ◌-◌, ◌*◌}
+use Rattle.limits.specs.Limits.{dir_width}
+use Rattle.lists.specs.Stores.{zeros_back}
 use Rattle.dir_rows.proofs.InBuffer.{dirs_long}
 use Rattle.mount_install.proofs.Walks.{dirs_cut}
-use native.Mathlib.Omega.{arith}
 use Rattle.mount_install.proofs.clear_dirs.Goals as goal
-
-pub overflow_mul-d : goal.overflow_mul-d
-overflow_mul-d c =
-    omega (arith, dirs_long _ _ _ c.requires.0, c.requires.0.few)
-
-pub overflow_mul-e : goal.overflow_mul-e
-overflow_mul-e c =
-    omega (arith, dirs_long _ _ _ c.requires.0, c.requires.0.few)
-
-pub zero_in-requires : goal.zero_in-requires
-zero_in-requires c =
-    omega (arith, dirs_long _ _ _ c.requires.0, c.requires.0.few)
 
 pub returns : goal.returns
 returns c =
-    dirs_cut _ _ _ _ _ c.requires.0 c.requires.1 c.zero_in.ensures
+    let a = c.args in let pre = c.requires in
+    dirs_cut _ _ _ _ _ pre.0 pre.1
+    (zeros_back a.dirs.now (a.d * dir_width) (a.e * dir_width) ((a.e - a.d) * dir_width) (omega arith) (omega (arith, dirs_long _ _ _ pre.0, pre.0.few)) (c.fill.ensures.after (search rules)))

@@ -1,6 +1,5 @@
--- At a mount `zero_in` zeroes all of a buffer; else both stay.
-use Rattle.std.proofs.Common.{refl, ap, ◌∙◌}
-use Rattle.mount.proofs.Mounting.{zeroed}
+-- At a mount both buffers are filled with zeros; else both stay.
+use Rattle.std.proofs.Common.{rules, refl, ap, ◌∙◌}
 use Rattle.calls_gate.specs.declared.Answer.TheVariants.{WrongShape}
 use Rattle.calls_gate.specs.Replies.{silently}
 use Rattle.pool.proofs.Ways.{mounts_is, chosen, other}
@@ -11,8 +10,8 @@ returns-then-takes c =
     let m = mounts_is _ _ _ c.takes_of-takes.ensures c.if-takes.true in
     record {
       reply = chosen _ _ _ _ m (c.silent.ensures ∙ ap (silently WrongShape c.args.place) c.zero-zero.ensures);
-      names = chosen _ _ _ _ m (zeroed c.args.names.now _ _ _ refl refl c.zero_in.ensures);
-      dirs = chosen _ _ _ _ m (zeroed c.args.dirs.now _ _ _ refl refl c.zero_in-then-takes.ensures);
+      names = chosen _ _ _ _ m (c.fill.ensures.after (search rules));
+      dirs = chosen _ _ _ _ m (c.fill-then-takes.ensures.after (search rules));
     }
 
 pub returns : goal.returns

@@ -6,31 +6,6 @@ use Rattle.slot_rows.proofs.Fields.{resized_stored}
 use lib.ListN.{length-set}
 use Rattle.slot_rows.proofs.set_row_len.Goals as goal
 
-pub overflow_mul-at : goal.overflow_mul-at
-overflow_mul-at c =
-    let pre = c.requires in
-    omega (arith, row_fits_lem _ _ _ _ pre.0 _ pre.1)
-
-pub offset_bounds-nums-at : goal.offset_bounds-nums-at
-offset_bounds-nums-at c =
-    let pre = c.requires in
-    omega (arith, row_fits_lem _ _ _ _ pre.0 _ pre.1)
-
-pub bounds-nums-at : goal.bounds-nums-at
-bounds-nums-at c =
-    let pre = c.requires in
-    omega (arith, row_fits_lem _ _ _ _ pre.0 _ pre.1)
-
-pub overflow_add-nums : goal.overflow_add-nums
-overflow_add-nums c =
-    let pre = c.requires in
-    omega (arith, row_fits_lem _ _ _ _ pre.0 _ pre.1)
-
-pub offset_bounds-nums-at-2 : goal.offset_bounds-nums-at-2
-offset_bounds-nums-at-2 c =
-    let pre = c.requires in
-    omega (arith, row_fits_lem _ _ _ _ pre.0 _ pre.1)
-
 pub bounds-nums-at-2 : goal.bounds-nums-at-2
 bounds-nums-at-2 c =
     let pre = c.requires in
