@@ -1,21 +1,7 @@
 -- Carried by `entry_put`: three stores, one behind the other, are one.
 use mathlib.Core.Path.{refl}
-use lib.ListN.{length-set}
 use Rattle.inner_list.proofs.Ways.{entry_put}
-use native.Mathlib.Omega.{arith}
 use Rattle.inner_list.proofs.put_entry.Goals as goal
-
-pub put_at-requires : goal.put_at-requires
-put_at-requires c =
-    simp length-set (omega arith)
-
-pub copy_in-requires : goal.copy_in-requires
-copy_in-requires c =
-    omega (
-      arith,
-      c.put_at.auto.dst,
-      (length-set c.args.buf.now c.args.at c.args.kind),
-    )
 
 pub returns : goal.returns
 returns c =
