@@ -108,10 +108,6 @@ module _ (path : List ℕ) (b : Bufs) (i : ℕ) (e : i ≡ find path (rows_in b)
 -- ---- one slot of sync_dir
 
 module _ (path : List ℕ) (r : Row) where
-  pub due_not : is_dirty r ≡ false → false ≡ is_due path r
-  unfolding is_due
-  due_not d = rw d
-
   -- the part of the names that is lent spells the row's path
   pub due_dirty : is_dirty r ≡ true → (q : List ℕ) → q ≡ path_of r → (t : Bool) → t ≡ is_parent path q → t ≡ is_due path r
   unfolding is_due

@@ -99,6 +99,7 @@ pub fn metadata(nums: &[u64], names: &[u8], dirs: &[u8], pool: Pool, path: &[u8]
 // ---- sync_dir
 
 // Whether row i is a dirty file whose parent equals the path.
+#[tactic(auto, unfolding(crate::specs::Folders::is_due))]
 fn is_due(nums: &[u64], names: &[u8], cap: usize, n: usize, i: usize, path: &[u8]) -> bool
     requires { Flat cap n nums.now names.now × (i < n) }
     ensures { result ≡ is_due path.now (at (rows_of nums.now names.now n) i) }
@@ -165,22 +166,15 @@ pub fn sync_dir(
     ensures { outcome result.out tt (after bytes.new phys.new result.place nums.new names.now dirs.now pool)
         ≡ flat_o (sync_dir_m plan.now geometry path.now (view_w (before bytes.old phys.old place nums.old names.now dirs.now pool))) }
 {
-    let n = pool.held;
     let mut at = place;
-    let mut i = 0;
-    while i < n {
+    for i in 0..pool.held {
         let done = sync_one(
             bytes, phys, geometry, plan, at, nums, names, dirs, pool, i, path,
         );
-        let out = done.out;
-        at = done.place;
-        if out != 0 {
-            return Ended {
-                out: out,
-                place: at,
-            };
+        if done.out != 0 {
+            return done;
         }
-        i += 1;
+        at = done.place;
     }
     Ended { out: 0, place: at }
 }

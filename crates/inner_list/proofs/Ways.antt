@@ -4,17 +4,19 @@ use native.Mathlib.Omega.{arith}
 use native.Mathlib.Nat.{add-sub_cancel_left}
 use native.Mathlib.Numerals.{add-one}
 use mathlib.Core.Path.{◌≡◌, refl, sym, ap, ◌∙◌}
-use mathlib.Core.Bool.{true, false}
+use mathlib.Core.Bool.{true}
 use mathlib.Core.List.{List, [], ◌∷◌, ◌++◌, map, append_assoc}
 use lib.ListN.{length, get_or, set, take, drop, length-append, length-take, length-drop, length-set, drop_of_length-le}
 use lib.Seq.{sets, sets-eq, length-sets, drop-cons}
+use Rattle.std.proofs.Common.{sum}
+use Rattle.std.proofs.lemmas.Grind.{common_steps}
 use Rattle.limits.specs.Limits.{max_path, dir_width}
 use Rattle.lists.specs.Blocks.{cat, sets_append}
 use Rattle.lists.specs.Runs.{range}
 use Rattle.lists.specs.Sort.{keep, sort, length_sort}
 use Rattle.le.specs.Le.{le, laid}
 use Rattle.path.specs.Path.{is_parent}
-use Rattle.slot_rows.specs.Rows.{Row, at, is_bound, path_of, rows_of, Flat}
+use Rattle.slot_rows.specs.Rows.{at, is_bound, path_of, rows_of, Flat}
 use Rattle.slot_rows.proofs.InBuffers.{length_rows, name_part}
 use Rattle.dir_rows.specs.Rows.{dir_at, dirs_of}
 use Rattle.dir_rows.proofs.InBuffer.{length_dirs, dir_part}
@@ -30,10 +32,6 @@ pub child_file : (cap n : ℕ) (l s : List ℕ) → Flat cap n l s → (dir : Li
     → is_bound (at (rows_of l s n) i) ≡ true → is_parent dir (take (i * max_path + k - i * max_path) (drop (i * max_path) s)) ≡ is_child dir (at (rows_of l s n) i)
 unfolding is_child
 child_file cap n l s F dir i k h e b = rw b (ap (is_parent dir) (name_part cap n l s F i h k e).1)
-
-pub child_none : (dir : List ℕ) (r : Row) → is_bound r ≡ false → false ≡ is_child dir r
-unfolding is_child
-child_none dir r b = rw b
 
 pub child_dir : (m : ℕ) (b dir : List ℕ) (j k : ℕ) → m * dir_width ≤ length b → j < m → k ≡ length (dir_at b j)
     → is_parent dir (take (j * dir_width + 2 + k - (j * dir_width + 2)) (drop (j * dir_width + 2) b)) ≡ is_parent dir (get_or (dirs_of b m) j [])
@@ -51,13 +49,10 @@ child_dirs_lem dir b m = rw (length_dirs b m)
 
 -- ---- sizes
 
-pub size_turn : (xs : List ℕ) (i : ℕ) → i < length xs → size_of (drop i xs) ≡ 3 + get_or xs i 0 % 512 + size_of (drop (i + 1) xs)
+pub size_sum : (xs : List ℕ) → sum (map (λ x. 3 + x % 512) xs) ≡ size_of xs
 unfolding size_of
-size_turn xs i h = rw (add-one, drop-cons xs i 0 h)
-
-pub size_end : (xs : List ℕ) (i size : ℕ) → length xs ≤ i → size + size_of (drop i xs) ≡ size_of xs → size ≡ size_of xs
-unfolding size_of
-size_end xs i size h e = let z = (rw (drop_of_length-le xs {i = i} h) at e) in omega arith
+size_sum [] = refl
+size_sum (x ∷ xs) = grind (arith, common_steps, size_sum xs)
 
 pub size_few : (xs : List ℕ) → size_of xs ≤ length xs * 514
 unfolding size_of
@@ -103,9 +98,6 @@ pub record Putting (kind : ℕ) (b xs d₀ : List ℕ) (at i end : ℕ) (d : Lis
   pub cells : sets d end (entries kind b (drop i xs)) ≡ sets d₀ at (entries kind b xs)
 
 module _ (kind : ℕ) (b xs d₀ : List ℕ) (at : ℕ) where
-  pub putting_start : Putting kind b xs d₀ at 0 at d₀
-  putting_start = record { long = refl; reached = refl; cells = refl }
-
   module _ (i end : ℕ) (d : List ℕ) (P : Putting kind b xs d₀ at i end d) where
     pub putting_end : length xs ≤ i → (end ≡ at + length (entries kind b xs)) × (d ≡ sets d₀ at (entries kind b xs))
     unfolding entries cat

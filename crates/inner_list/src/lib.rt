@@ -3,17 +3,18 @@
 // are a pool, and that the path is text. Names stay where they are: only the parts that they stand in are picked and put in order.
 #![tactic(auto)]
 
-ghost use Rattle.std.specs.Prelude.{◌≡◌, [], ◌++◌, ◌+◌, ◌*◌, ◌≤◌, ◌<◌, length, get_or};
+ghost use Rattle.std.specs.Prelude.{◌≡◌, ℕ, Bool, [], ◌++◌, ◌+◌, ◌*◌, ◌≤◌, ◌<◌, map, length, get_or};
 ghost use Rattle.std.proofs.lemmas.List.Edits.{sets};
 ghost use Rattle.limits.specs.Limits.{dir_width};
-ghost use Rattle.lists.specs.Sort.{sort};
+ghost use Rattle.lists.specs.Runs.{range};
+ghost use Rattle.lists.specs.Sort.{keep, sort};
 ghost use Rattle.path.specs.Path.{is_parent};
 ghost use Rattle.slot_rows.specs.Rows.{at, rows_of, Flat};
 ghost use Rattle.dir_rows.specs.Rows.{dirs_of};
 ghost use Rattle.pool_state.specs.State.{bufs, bufs_before, view, IsPool};
 ghost use Rattle.row_order.specs.Spans.{AllInside, span_before};
 ghost use Rattle.inner_list.specs.Listing.{is_child, entry, listing, read_dir_m};
-ghost use Rattle.inner_list.specs.Parts.{child_files, child_dirs, size_of, entries};
+ghost use Rattle.inner_list.specs.Parts.{child_files, child_dirs, size_of, entries, Answers};
 
 use limits::{DIR_WIDTH, MAX_PATH};
 use pool_state::Pool;
@@ -26,6 +27,7 @@ pub struct Listed {
 }
 
 // Whether slot row i is bound to a path whose parent is dir.
+#[tactic(auto, unfolding(crate::specs::Listing::is_child))]
 fn is_child(nums: &[u64], names: &[u8], cap: usize, n: usize, dir: &[u8], i: usize) -> bool
     requires { Flat cap n nums.now names.now × (i < n) }
     ensures { result ≡ is_child dir.now (at (rows_of nums.now names.now n) i) }
@@ -48,6 +50,28 @@ fn is_child_dir(dirs: &[u8], m: usize, dir: &[u8], j: usize) -> bool
     path::is_parent(dir, &dirs[from..from + k])
 }
 
+// Writes the parts of the rows below n that pass to the front of spans, by row, and says how many they are.
+fn picked<P: Fn(usize) -> bool, S: Fn(usize) -> u32>(
+    n: usize,
+    spans: &mut [u32],
+    passes: P,
+    span: S,
+) -> usize
+    requires room { n ≤ length spans.old }
+    requires asked { (i : ℕ) → i < n → P.pre passes i × S.pre span i }
+    ensures { (p : ℕ → Bool) (f : ℕ → ℕ) → Answers P.post passes n p → Answers S.post span n f
+        → (result ≡ length (map f (keep p (range 0 n)))) × (spans.new ≡ sets spans.old 0 (map f (keep p (range 0 n)))) }
+{
+    let mut count = 0;
+    for i in 0..n {
+        if passes(i) {
+            spans[count] = span(i);
+            count += 1;
+        }
+    }
+    count
+}
+
 // Writes the paths of the directory's files, by slot, to the front of spans, and says how many they are.
 fn child_files(
     nums: &[u64],
@@ -62,17 +86,12 @@ fn child_files(
     ensures picked { spans.new
         ≡ sets spans.old 0 (child_files dir.now (rows_of nums.now names.now n)) }
 {
-    let mut count = 0;
-    let mut i = 0;
-    while i < n {
-        let at = i;
-        i += 1;
-        if is_child(nums, names, cap, n, dir, at) {
-            spans[count] = row_order::file_span(nums, names, cap, n, at);
-            count += 1;
-        }
-    }
-    count
+    picked(
+        n,
+        spans,
+        |i| is_child(nums, names, cap, n, dir, i),
+        |i| row_order::file_span(nums, names, cap, n, i),
+    )
 }
 
 // Writes the spellings of the directory's directories, by row, to the front of spans, and says how many they are.
@@ -81,17 +100,12 @@ fn child_dirs(dirs: &[u8], m: usize, dir: &[u8], spans: &mut [u32]) -> usize
     ensures count { result ≡ length (child_dirs dir.now (dirs_of dirs.now m)) }
     ensures picked { spans.new ≡ sets spans.old 0 (child_dirs dir.now (dirs_of dirs.now m)) }
 {
-    let mut count = 0;
-    let mut j = 0;
-    while j < m {
-        let at = j;
-        j += 1;
-        if is_child_dir(dirs, m, dir, at) {
-            spans[count] = row_order::dir_span(dirs, m, at);
-            count += 1;
-        }
-    }
-    count
+    picked(
+        m,
+        spans,
+        |j| is_child_dir(dirs, m, dir, j),
+        |j| row_order::dir_span(dirs, m, j),
+    )
 }
 
 // How many bytes the entries of these parts take.
@@ -99,13 +113,7 @@ fn size_of(spans: &[u32]) -> usize
     requires { length spans.now ≤ 256 }
     ensures { result ≡ size_of spans.now }
 {
-    let mut size = 0;
-    let mut i = 0;
-    while i < spans.len() {
-        size = size + 3 + (spans[i] % 512) as usize;
-        i += 1;
-    }
-    size
+    spans.iter().map(|x| 3 + (*x % 512) as usize).sum()
 }
 
 // Writes one entry from index at on.
@@ -126,14 +134,11 @@ fn put_entries(bytes: &[u8], spans: &[u32], buf: &mut [u8], at: usize, kind: u8)
     ensures written { buf.new ≡ sets buf.old at (entries kind bytes.now spans.now) }
 {
     let mut end = at;
-    let mut i = 0;
-    while i < spans.len() {
-        let x = spans[i];
-        let a = (x / 512) as usize;
-        let n = (x % 512) as usize;
+    for x in spans {
+        let a = (*x / 512) as usize;
+        let n = (*x % 512) as usize;
         put_entry(&bytes[a..a + n], buf, end, kind);
         end = end + 3 + n;
-        i += 1;
     }
     end
 }

@@ -2,17 +2,16 @@
 -- directory the first of its bytes.
 use Prim.Native.Nat.{ℕ, ◌+◌, ◌*◌, ◌≤◌, ◌<◌}
 use mathlib.Core.Path.{◌≡◌, refl, sym, ap, ◌∙◌}
-use mathlib.Core.Logic.{inl, inr}
 use mathlib.Core.List.{List}
-use mathlib.Core.Bool.{Bool, true, false, not, false≢true}
+use mathlib.Core.Bool.{Bool, true, false, false≢true}
 use native.Mathlib.Omega.{arith}
 use lib.Dec.{eqb, leb}
 use lib.ListN.{length, get_or, take, drop}
-use borrow.Author.Tests.{eq-eqb, ne_eqb, lt-leb, le-leb, lt-ltb, le-ltb}
+use borrow.Author.Tests.{eq-eqb, lt-leb, le-leb}
 use Rattle.limits.specs.Limits.{max_path, dir_width}
 use Rattle.le.specs.Le.{le, field, Bytes}
 use Rattle.le.proofs.Fields.{field_back}
-use Rattle.lists.specs.Same.{same_bytes, same_bytes_refl, same_length, same_bytes_other}
+use Rattle.lists.specs.Same.{same_bytes, same_bytes_refl, same_bytes_other}
 use Rattle.text.specs.Greatest.{greatest}
 use Rattle.lists.specs.Runs.{any_not, any_none}
 use Rattle.path.specs.Path.{text_key, key_of}
@@ -20,8 +19,8 @@ use Rattle.path.proofs.Theorems.{same_path_refl, key_other}
 use Rattle.slot_rows.specs.Rows.{Row, at, is_bound, path_of, holds, find}
 use Rattle.slot_rows.proofs.Finding.{holds_unbound, holds_path, find_is}
 use Rattle.dir_rows.specs.Rows.{dir_at}
-use Rattle.pool_test.specs.Test.{is_zero, cut_out, dir_fits, is_at, has_num, first_ok, cell_ok}
-use Rattle.pool_test.specs.Keys.{Keys, is_dir, has_dir, Tail}
+use Rattle.pool_test.specs.Test.{is_zero, cut_out, dir_fits, is_at, has_num, first_ok}
+use Rattle.pool_test.specs.Keys.{Keys, is_dir, has_dir}
 use Rattle.pool_test.proofs.Turns.{and_no, and_on}
 
 -- where no key before i is key i, none before it has the key of what stands at i
@@ -32,11 +31,7 @@ keys_apart g f n ks i K h e j l u =
 
 -- ---- slot rows
 
-pub first_unbound : (rs : List Row) (i : ℕ) → is_bound (at rs i) ≡ false → true ≡ first_ok rs i
-unfolding first_ok
-first_unbound rs i b = rw b
-
-pub first_bound : (rs : List Row) (i r : ℕ) → is_bound (at rs i) ≡ true → r ≡ find (path_of (at rs i)) rs → eqb r i ≡ first_ok rs i
+first_bound : (rs : List Row) (i r : ℕ) → is_bound (at rs i) ≡ true → r ≡ find (path_of (at rs i)) rs → eqb r i ≡ first_ok rs i
 unfolding first_ok
 first_bound rs i r b e = rw (b, e)
 
@@ -63,10 +58,6 @@ none_before b n ks i p K h q e =
     sym (any_none (is_dir b p) 0 i
     (λ j a l. same_bytes_other (dir_at b j) p (λ u. keys_apart text_key (dir_at b) n ks i K h e j (omega arith) (ap text_key (u ∙ q)))))
 
--- fewer keys are keys, too
-pub keys_fewer : (g : List ℕ → ℕ) (f : ℕ → List ℕ) (n i : ℕ) (ks : List ℕ) → Keys g f n ks → i ≤ n → Keys g f i ks
-keys_fewer g f n i ks K h = record { room = omega (arith, K.room); key = λ j l. K.key j (omega arith) }
-
 -- ---- a directory row's form
 
 module _ (b : List ℕ) (j : ℕ) (bytes : Bytes b) (room : j * dir_width + dir_width ≤ length b) (r : ℕ) (e : r ≡ field b (j * dir_width) 2) where
@@ -82,43 +73,3 @@ module _ (b : List ℕ) (j : ℕ) (bytes : Bytes b) (room : j * dir_width + dir_
   fit_rest g h z =
       and_on _ _ (eqb g 0) two (and_on _ _ (eqb g 0) (ap (λ (x : ℕ). leb x max_path) (sym e) ∙ le-leb _ _ h)
       (ap (λ (x : ℕ). eqb x 0) z ∙ ap (λ (x : ℕ). eqb (greatest (cut_out b (j * dir_width + 2 + x) (j * dir_width + dir_width))) 0) e))
-
--- ---- zeros
-
-module _ (l : List ℕ) (r : ℕ) (e : r ≡ greatest l) where
-  pub zero_no : (r ≡ 0 → ⊥) → is_zero l ≡ false
-  unfolding is_zero
-  zero_no h = ap (λ (x : ℕ). eqb x 0) (sym e) ∙ ne_eqb r 0 h
-
-  pub zero_yes : r ≡ 0 → is_zero l ≡ true
-  unfolding is_zero
-  zero_yes h = ap (λ (x : ℕ). eqb x 0) (sym e) ∙ eq-eqb r 0 h
-
-  pub zero_is : eqb r 0 ≡ is_zero l
-  unfolding is_zero
-  zero_is = ap (λ (x : ℕ). eqb x 0) e
-
--- ---- a cell of the queue
-
-module _ (rs : List Row) (n : ℕ) (long : length rs ≡ n) (q : List ℕ) (k : ℕ) where
-  pub cell_out : n ≤ get_or q k 0 → false ≡ cell_ok rs q k
-  unfolding cell_ok
-  cell_out h = and_no _ _ (le-ltb (get_or q k 0) (length rs) (omega arith))
-
-  pub cell_bound : get_or q k 0 < n → is_bound (at rs (get_or q k 0)) ≡ true → false ≡ cell_ok rs q k
-  unfolding cell_ok
-  cell_bound h b = and_on _ _ false (lt-ltb (get_or q k 0) (length rs) (omega arith)) (and_no _ _ (ap not b))
-
-  pub cell_last : (r : Bool) → get_or q k 0 < n → is_bound (at rs (get_or q k 0)) ≡ false → r ≡ has_num q k (get_or q k 0) → not r ≡ cell_ok rs q k
-  unfolding cell_ok
-  cell_last r h b e = and_on _ _ (not r) (lt-ltb (get_or q k 0) (length rs) (omega arith)) (and_on _ _ (not r) (ap not b) (ap not e))
-
--- ---- lengths of texts
-
-pub length_other : (b p : List ℕ) (j k : ℕ) → k ≡ length (dir_at b j) → (k ≡ length p → ⊥) → false ≡ is_dir b p j
-unfolding is_dir
-length_other b p j k e n = sym (same_length eqb (dir_at b j) p (λ u. n (e ∙ u)))
-
-pub tail_inside : (x : List ℕ) (e k : ℕ) → Tail x e k → e ≤ length x → k ≤ length x
-tail_inside x e k (inl z) h = omega arith
-tail_inside x e k (inr t) h = omega (arith, t.0)

@@ -1,16 +1,24 @@
--- Turns of the loops: over a flag that is never taken back, over two texts side by side, and `&&` chains that end at a test.
-use Prim.Native.Nat.{ℕ, zero, suc, ◌+◌, ◌-◌, ◌≤◌, ◌<◌}
-use mathlib.Core.Path.{◌≡◌, refl, sym, ap, ap₂, ◌∙◌}
-use mathlib.Core.List.{List}
+-- What the library's `contains`, `==`, `all` and `any` answer, in the words of the contracts; and `&&` chains that end at a test.
+use Prim.Native.Nat.{ℕ, zero, suc, ◌+◌, ◌≤◌, ◌<◌}
+use mathlib.Core.Path.{◌≡◌, refl, sym, ◌∙◌}
+use mathlib.Core.List.{List, [], ◌∷◌}
 use mathlib.Core.Bool.{Bool, true, false, cond, ◌&&◌, ◌||◌, false≢true}
 use native.Mathlib.Omega.{arith}
-use native.Mathlib.Decide.{ℕ_discrete}
 use lib.Dec.{eqb}
-use lib.ListN.{length, get_or, set, drop, drop_of_length-le}
-use lib.Seq.{drop-cons, get_or-set_same, get_or-set_other}
-use borrow.Author.Tests.{eq-eqb, ne_eqb}
-use Rattle.lists.specs.Runs.{any_of, any_hit, any_next, any_end, any_not, from_start}
+use lib.ListN.{length, get_or, take, drop}
+use lib.Seq.{drop-cons}
+use Rattle.lists.specs.Runs.{all_of, any_of, any_not}
+use native.Mathlib.Numerals.{add-one}
+use denote.Param.Members.{Mut}
+use Rattle.std.specs.Fn.{Called}
+use Rattle.std.specs.Iterator.{ChecksAll, ChecksAny}
+use Rattle.std.specs.List.{list_all, list_any, range_with_len}
+use Rattle.std.proofs.iter.Yields.{nat_range_steps}
+use Rattle.std.proofs.lemmas.Iterator.{YieldsList-from_range}
+use Rattle.std.proofs.lemmas.Iterator.Search.{all_from_yields_List, any_from_yields_List}
 use Rattle.lists.specs.Same.{same, same_bytes}
+use Rattle.pool_test.specs.Test.{is_at, has_num}
+use Rattle.std.specs.Str.{bytes_eq}
 
 -- ---- chains of tests
 
@@ -20,30 +28,20 @@ and_no a b e = rw e
 pub and_on : (a b r : Bool) → a ≡ true → r ≡ b → r ≡ (a && b)
 and_on a b r e f = rw e f
 
-pub and_last : (a b : Bool) → b ≡ true → a ≡ (a && b)
-and_last true b e = sym e
-and_last false b e = refl
+-- ---- `contains` over the first of a list
 
--- ---- a flag
+listed : (t : ℕ → Bool) (l : List ℕ) (i k : ℕ) → i + k ≤ length l → list_any t (take k (drop i l)) ≡ any_of (λ j. t (get_or l j 0)) i k
+unfolding any_of
+listed t l i zero h = refl
+listed t l i (suc k) h = rw (drop-cons l i 0 (omega arith), listed t l (suc i) k (omega arith)) (go (t (get_or l i 0)))
+  where
+    go : (b : Bool) → (b || any_of (λ j. t (get_or l j 0)) (suc i) k) ≡ cond b true (any_of (λ j. t (get_or l j 0)) (suc i) k)
+    go true = refl
+    go false = refl
 
-module _ (f : ℕ → Bool) (k : ℕ) where
-  pub flag_start : any_of f 0 k ≡ (false || any_of f 0 (k - 0))
-  flag_start = from_start (any_of f) k
-
-  pub flag_turn : (j : ℕ) (hit r : Bool) → j < k → any_of f 0 k ≡ (hit || any_of f j (k - j)) → r ≡ (hit || f j) → any_of f 0 k ≡ (r || any_of f (j + 1) (k - (j + 1)))
-  flag_turn j hit r h e u = e ∙ go hit (f j) refl ∙ ap (λ (x : Bool). x || any_of f (j + 1) (k - (j + 1))) (sym u)
-    where
-      go : (hit t : Bool) → f j ≡ t → (hit || any_of f j (k - j)) ≡ ((hit || t) || any_of f (j + 1) (k - (j + 1)))
-      go true t u = refl
-      go false true u = any_hit f k j h u
-      go false false u = any_next f k j h u
-
-  pub flag_end : (j : ℕ) (hit : Bool) → k ≤ j → any_of f 0 k ≡ (hit || any_of f j (k - j)) → hit ≡ any_of f 0 k
-  flag_end j hit h e = sym (e ∙ go hit (any_end f k j h))
-    where
-      go : (hit : Bool) → any_of f j (k - j) ≡ false → (hit || any_of f j (k - j)) ≡ hit
-      go true u = refl
-      go false u = u
+pub num_told : (l : List ℕ) (k x : ℕ) → k ≤ length l → list_any (λ y. eqb y x) (take k l) ≡ has_num l k x
+unfolding is_at
+num_told l k x h = listed (λ y. eqb y x) l 0 k (omega arith)
 
 -- ---- one of a run
 
@@ -66,56 +64,43 @@ any_one f i (suc k) e = go (f i) refl e (any_one f (suc i) k)
     go true u v ih = (i, omega arith, omega arith, u)
     go false u v ih = let r = ih v in (r.0, omega (arith, r.1), omega (arith, r.2), r.3)
 
--- ---- the same bytes so far
+-- ---- `==` of two texts
 
--- the flag, and what is left of both, is the answer
-pub same_turn : (a b : List ℕ) (i : ℕ) (t r : Bool) → i < length a → i < length b → same_bytes a b ≡ (t && same_bytes (drop i a) (drop i b)) → r ≡ (t && eqb (get_or a i 0) (get_or b i 0))
-    → same_bytes a b ≡ (r && same_bytes (drop (i + 1) a) (drop (i + 1) b))
+pub same_told : (a b : List ℕ) → bytes_eq a b ≡ same_bytes a b
 unfolding same
-same_turn a b i t r h k e f =
-    let one : i + 1 ≡ suc i = omega arith in
-    e
-    ∙ ap (λ (x : Bool). t && x) (ap₂ same_bytes (drop-cons a i 0 h) (drop-cons b i 0 k))
-    ∙ go t (eqb (get_or a i 0) (get_or b i 0)) (same_bytes (drop (suc i) a) (drop (suc i) b))
-    ∙ ap (λ (x : Bool). x && same_bytes (drop (suc i) a) (drop (suc i) b)) (sym f)
-    ∙ ap (λ (x : ℕ). r && same_bytes (drop x a) (drop x b)) (sym one)
+same_told [] [] = refl
+same_told [] (y ∷ b) = refl
+same_told (x ∷ a) [] = refl
+same_told (x ∷ a) (y ∷ b) = rw (same_told a b) (go (eqb x y))
   where
-    go : (t u v : Bool) → (t && cond u v false) ≡ ((t && u) && v)
-    go false u v = refl
-    go true true v = refl
-    go true false v = refl
-
-pub same_end : (a b : List ℕ) (i : ℕ) (t : Bool) → length a ≤ i → length b ≤ i → same_bytes a b ≡ (t && same_bytes (drop i a) (drop i b)) → t ≡ same_bytes a b
-unfolding same
-same_end a b i t h k e = sym (e ∙ ap (λ (x : Bool). t && x) (ap₂ same_bytes (drop_of_length-le a {i = i} h) (drop_of_length-le b {i = i} k)) ∙ go t)
-  where
-    go : (t : Bool) → (t && true) ≡ t
+    go : (t : Bool) → (t && same_bytes a b) ≡ cond t (same_bytes a b) false
     go true = refl
     go false = refl
 
-pub still_yes : (t : Bool) (a b : ℕ) → a ≡ b → t ≡ (t && eqb a b)
-still_yes t a b e = and_last t (eqb a b) (eq-eqb a b e)
+-- ---- `all` and `any` over 0..n
 
-pub still_no : (t : Bool) (a b : ℕ) → (a ≡ b → ⊥) → false ≡ (t && eqb a b)
-still_no true a b e = sym (ne_eqb a b e)
-still_no false a b e = refl
-
--- ---- one more key
-
-pub keys_more : (g : List ℕ → ℕ) (f : ℕ → List ℕ) (ks : List ℕ) (j x : ℕ) → ((i : ℕ) → i < j → get_or ks i 0 ≡ g (f i)) → j < length ks → x ≡ g (f j)
-    → (i : ℕ) → i < j + 1 → get_or (set ks j x) i 0 ≡ g (f i)
-keys_more g f ks j x h l e i k = go (ℕ_discrete i j)
+all_listed : (f : ℕ → Bool) (i k : ℕ) → list_all f (range_with_len i k) ≡ all_of f i k
+unfolding all_of
+all_listed f i zero = refl
+all_listed f i (suc k) = rw (all_listed f (i + 1) k, add-one) (go (f i))
   where
-    go : Dec (i ≡ j) → get_or (set ks j x) i 0 ≡ g (f i)
-    go (yes u) = rw u (get_or-set_same ks j x 0 l ∙ e)
-    go (no u) = get_or-set_other ks j i x 0 u ∙ h i (omega arith)
+    go : (t : Bool) → (t && all_of f (suc i) k) ≡ cond t (all_of f (suc i) k) false
+    go true = refl
+    go false = refl
 
--- ---- a test of one more
+any_listed : (f : ℕ → Bool) (i k : ℕ) → list_any f (range_with_len i k) ≡ any_of f i k
+unfolding any_of
+any_listed f i zero = refl
+any_listed f i (suc k) = rw (any_listed f (i + 1) k, add-one) (go (f i))
+  where
+    go : (t : Bool) → (t || any_of f (suc i) k) ≡ cond t true (any_of f (suc i) k)
+    go true = refl
+    go false = refl
 
-pub struck_yes : (hit : Bool) (a b : ℕ) → a ≡ b → true ≡ (hit || eqb a b)
-struck_yes true a b e = refl
-struck_yes false a b e = sym (eq-eqb a b e)
+-- where the closure c answers f, they answer `all_of` and `any_of`
+module _ {F : Type 0} {g : Mut F (ℕ × Unit {0}) Bool} (f : ℕ → Bool) (n : ℕ) (u : _) (c : F) (r : Bool) where
+  pub all_told : ChecksAll nat_range_steps g (record { start = 0; end = n }) c r u → ((x : ℕ) (b : Bool) (q : F) → Called g c (x, tt) b q → (q ≡ c) × (b ≡ f x)) → r ≡ all_of f 0 n
+  all_told h computes = all_from_yields_List f u c r h (YieldsList-from_range 0 n n refl (omega arith)) computes ∙ all_listed f 0 n
 
-pub struck_no : (hit : Bool) (a b : ℕ) → (a ≡ b → ⊥) → hit ≡ (hit || eqb a b)
-struck_no true a b e = refl
-struck_no false a b e = sym (ne_eqb a b e)
+  pub any_told : ChecksAny nat_range_steps g (record { start = 0; end = n }) c r u → ((x : ℕ) (b : Bool) (q : F) → Called g c (x, tt) b q → (q ≡ c) × (b ≡ f x)) → r ≡ any_of f 0 n
+  any_told h computes = any_from_yields_List f u c r h (YieldsList-from_range 0 n n refl (omega arith)) computes ∙ any_listed f 0 n

@@ -6,7 +6,6 @@ use mathlib.Core.Logic.{◌⊎◌, inl, inr}
 use mathlib.Core.List.{List, [], ◌∷◌, ◌++◌}
 use mathlib.Core.Bool.{Bool, true, false, not, cond, ◌&&◌, ◌||◌, false≢true}
 use native.Mathlib.Omega.{arith}
-use native.Mathlib.Decide.{ℕ_discrete}
 use lib.Dec.{eqb}
 use lib.ListN.{length, get_or, take, drop, length-drop, take-append-drop}
 use lib.Seq.{length-take-le, drop-cons}
@@ -28,6 +27,14 @@ use Rattle.pool_test.specs.Keys.{is_dir, has_dir, Tail, Upright, Fine, Judged}
 use Rattle.pool_test.proofs.FlatForms.{both, and_of, part_rest}
 use Rattle.pool_test.proofs.Exactly.{in_dirs, dirs_in_lem, dir_says, normals}
 use Rattle.pool_test.proofs.Turns.{any_one}
+use denote.Param.Members.{Mut}
+use Rattle.std.specs.Bool.{MatchBool}
+use Rattle.std.specs.Fn.{Called}
+use Rattle.std.specs.Iterator.{ChecksAll}
+use Rattle.std.specs.List.{AllWithin, HoldsAt, range_with_len}
+use Rattle.std.proofs.iter.Yields.{nat_range_steps}
+use Rattle.std.proofs.lemmas.Iterator.{YieldsList-from_range, cases_from_all}
+use Rattle.std.proofs.lemmas.List.FromFn.{length-range_with_len, get_or-range_with_len}
 
 -- ---- a text cut at a slash
 
@@ -256,21 +263,17 @@ module _ (b : List ℕ) (m : ℕ) (F : (j : ℕ) → j < m → Fine b m j) where
           sym (normal_row s.0 (omega (arith, s.2))) ∙ (same_normal (dir_at b s.0) (dir_at b j)).1 (ap components s.3 ∙ r.2) ∙ normal_row j h in
           absurd ((F j h).first s.0 (omega (arith, s.2)) q)
 
-  pub all_fine : true ≡ all_of (dir_ok b m) 0 m
+  all_fine : true ≡ all_of (dir_ok b m) 0 m
   all_fine = sym (all_intro (dir_ok b m) 0 m (λ j p h. passes j (omega arith)))
 
--- what a test says, by its answer
-pub judged_no : (P : Type 0) (b : List ℕ) (m : ℕ) (r : Bool) → Judged P b m r → r ≡ false → false ≡ all_of (dir_ok b m) 0 m
-judged_no P b m false e h = sym e
-judged_no P b m true e h = absurd (false≢true (sym h))
+module _ (b : List ℕ) (m : ℕ) where
+  -- `all` over the directories: each is fine, or one that isn't says it of all
+  judged : (r : Bool) → MatchBool r (AllWithin (Fine b m) (range_with_len 0 m) 0 (length (range_with_len 0 m)))
+      ((k : ℕ) × (k < length (range_with_len 0 m)) × HoldsAt (λ _. all_of (dir_ok b m) 0 m ≡ false) (range_with_len 0 m) k) → r ≡ all_of (dir_ok b m) 0 m
+  judged false h = sym (h.2 0)
+  judged true h = all_fine b m (λ j l. let e : get_or (range_with_len 0 m) j 0 ≡ j = omega (arith, get_or-range_with_len 0 m j 0 l) in rw e at (h j 0 (omega arith) (omega (arith, length-range_with_len 0 m))))
 
-pub judged_yes : (P : Type 0) (b : List ℕ) (m : ℕ) (r : Bool) → Judged P b m r → r ≡ true → P
-judged_yes P b m true e h = e
-judged_yes P b m false e h = absurd (false≢true h)
-
-pub fine_more : (b : List ℕ) (m j : ℕ) → ((i : ℕ) → i < j → Fine b m i) → Fine b m j → (i : ℕ) → i < j + 1 → Fine b m i
-fine_more b m j F f i h = go (ℕ_discrete i j)
-  where
-    go : Dec (i ≡ j) → Fine b m i
-    go (yes e) = subst (Fine b m) (sym e) f
-    go (no e) = F i (omega arith)
+  pub all_judged : {G : Type 0} {g : Mut G (ℕ × Unit {0}) Bool} (u : _) (c : G) (r : Bool) → ChecksAll nat_range_steps g (record { start = 0; end = m }) c r u
+      → ((x : ℕ) (t : Bool) (q : G) → Called g c (x, tt) t q → (q ≡ c) × Judged (Fine b m x) b m t) → r ≡ all_of (dir_ok b m) 0 m
+  all_judged u c r ran says =
+      judged r (cases_from_all u c r (Fine b m) (λ _. all_of (dir_ok b m) 0 m ≡ false) ran (YieldsList-from_range 0 m m refl (omega arith)) (λ x q h. says x true q h) (λ x q h. (says x false q h).1))

@@ -3,16 +3,15 @@
 // Every lent byte is read, so no loop over bytes has an early exit, and paths are compared only where their keys agree.
 #![tactic(auto)]
 
-ghost use Rattle.std.specs.Prelude.{◌≡◌, ◌&&◌, ◌||◌, ◌+◌, ◌*◌, ◌≤◌, ◌<◌, max, eqb, length, get_or};
+ghost use Rattle.std.specs.Prelude.{◌≡◌, ◌+◌, ◌*◌, ◌≤◌, ◌<◌, length, get_or};
 ghost use Rattle.limits.specs.Limits.{max_path, row_width, dir_width};
 ghost use Rattle.lists.specs.Runs.{all_of};
-ghost use Rattle.lists.specs.Same.{same_bytes};
 ghost use Rattle.text.specs.Greatest.{greatest};
 ghost use Rattle.path.specs.Path.{text_key, key_of};
 ghost use Rattle.slot_rows.specs.Rows.{at, path_of, rows_of, Flat};
 ghost use Rattle.dir_rows.specs.Rows.{dir_at};
 ghost use Rattle.pool_state.specs.State.{bufs};
-ghost use Rattle.pool_test.specs.Test.{sizes_ok, rest_ok, bare_ok, row_fits, dir_fits, first_ok, row_ok, has_num, cell_ok, dir_ok};
+ghost use Rattle.pool_test.specs.Test.{sizes_ok, rest_ok, bare_ok, row_fits, dir_fits, first_ok, row_ok, cell_ok, dir_ok};
 ghost use Rattle.pool_test.specs.Test.{fits_ok, view_ok, is_pool};
 ghost use Rattle.pool_test.specs.Keys.{Sized, Keys, is_dir, has_dir, Tail, Upright, Fine, Judged};
 
@@ -58,27 +57,20 @@ fn sizes_ok(pool: Pool, nums: usize, names: usize, dirs: usize) -> bool
     dirs == dir_rows * DIR_WIDTH
 }
 
-// The greater of two numbers.
-fn greater(a: u64, b: u64) -> u64
-    ensures { result ≡ max a b }
-{
-    if a < b { b } else { a }
-}
-
 // The greatest of some numbers, 0 where there is none.
+#[tactic(auto, using(text::proofs::Turns::greatest_turn, text::proofs::Turns::greatest_end))]
 fn top(s: &[u64]) -> u64
     ensures { result ≡ greatest s.now }
 {
     let mut t: u64 = 0;
-    let mut i = 0;
-    while i < s.len() {
-        t = greater(t, s[i]);
-        i += 1;
+    for x in s {
+        t = t.max(*x);
     }
     t
 }
 
 // Whether all is zero behind the rows held and behind the queue.
+#[tactic(auto, unfolding(crate::specs::Test::rest_ok, crate::specs::Test::is_zero))]
 fn rest_ok(nums: &[u64], names: &[u8], dirs: &[u8], pool: Pool) -> bool
     requires { Sized pool (length nums.now) (length names.now) (length dirs.now) }
     ensures { result ≡ rest_ok (bufs pool nums.now names.now dirs.now) }
@@ -102,6 +94,7 @@ fn rest_ok(nums: &[u64], names: &[u8], dirs: &[u8], pool: Pool) -> bool
 // ---- rows that are the form of something
 
 // Whether slot row i is the form of a slot.
+#[tactic(auto, unfolding(crate::specs::Test::row_fits, crate::specs::Test::is_zero))]
 fn row_fits(nums: &[u64], names: &[u8], i: usize) -> bool
     requires { (i * row_width + row_width ≤ length nums.now) × (i * max_path + max_path ≤ length names.now) }
     ensures { result ≡ row_fits nums.now names.now i }
@@ -123,6 +116,7 @@ fn row_fits(nums: &[u64], names: &[u8], i: usize) -> bool
 }
 
 // Whether a row of mark m has a path and a length only if it is bound.
+#[tactic(auto, unfolding(crate::specs::Test::bare_ok))]
 fn bare_ok(m: u64, k: u64, n: u64) -> bool
     ensures { result ≡ bare_ok m k n }
 {
@@ -140,14 +134,7 @@ fn rows_fit(nums: &[u64], names: &[u8], n: usize) -> bool
     requires { (n * row_width ≤ length nums.now) × (n * max_path ≤ length names.now) }
     ensures { result ≡ all_of (row_fits nums.now names.now) 0 n }
 {
-    let mut i = 0;
-    while i < n {
-        if !row_fits(nums, names, i) {
-            return false;
-        }
-        i += 1;
-    }
-    true
+    (0..n).all(|i| row_fits(nums, names, i))
 }
 
 // Whether directory row j is the form of a directory.
@@ -168,17 +155,11 @@ fn dirs_fit(dirs: &[u8], m: usize) -> bool
     requires { m * dir_width ≤ length dirs.now }
     ensures { result ≡ all_of (dir_fits dirs.now) 0 m }
 {
-    let mut j = 0;
-    while j < m {
-        if !dir_fits(dirs, j) {
-            return false;
-        }
-        j += 1;
-    }
-    true
+    (0..m).all(|j| dir_fits(dirs, j))
 }
 
 // Whether the rows held are the forms of slots and of directories.
+#[tactic(auto, unfolding(crate::specs::Test::fits_ok))]
 fn fits_ok(nums: &[u64], names: &[u8], dirs: &[u8], pool: Pool) -> bool
     requires { Sized pool (length nums.now) (length names.now) (length dirs.now) }
     ensures { result ≡ fits_ok (bufs pool nums.now names.now dirs.now) }
@@ -193,35 +174,14 @@ fn fits_ok(nums: &[u64], names: &[u8], dirs: &[u8], pool: Pool) -> bool
 
 // ---- slot rows
 
-// Whether there was a hit already, or a is b.
-fn struck(hit: bool, a: u32, b: u32) -> bool
-    ensures { result ≡ (hit || eqb a b) }
-{
-    if a == b { true } else { hit }
-}
-
-// Whether one of the first k keys is f.
-fn has_key(keys: &[u32], k: usize, f: u32) -> bool
-    requires { k ≤ length keys.now }
-    ensures { result ≡ has_num keys.now k f }
-{
-    let mut hit = false;
-    let mut j = 0;
-    while j < k {
-        hit = struck(hit, keys[j], f);
-        j += 1;
-    }
-    hit
-}
-
-// The key of row i's path.
-fn row_key(nums: &[u64], names: &[u8], cap: usize, n: usize, i: usize) -> u32
+// Row i's path, where it stands in the buffer.
+fn row_path<'a>(nums: &[u64], names: &'a [u8], cap: usize, n: usize, i: usize) -> &'a [u8]
     requires { Flat cap n nums.now names.now × (i < n) }
-    ensures { result ≡ key_of (path_of (at (rows_of nums.now names.now n) i)) }
+    ensures { result.now ≡ path_of (at (rows_of nums.now names.now n) i) }
 {
     let k = slot_rows::path_len(nums, names, cap, n, i);
     let from = i * MAX_PATH;
-    path::key(&names[from..from + k])
+    &names[from..from + k]
 }
 
 // The keys of the rows' paths.
@@ -229,14 +189,13 @@ fn row_keys(nums: &[u64], names: &[u8], cap: usize, n: usize, keys: &mut [u32])
     requires { Flat cap n nums.now names.now × (n ≤ length keys.old) }
     ensures { Keys key_of (λ i. path_of (at (rows_of nums.now names.now n) i)) n keys.new }
 {
-    let mut i = 0;
-    while i < n {
-        keys[i] = row_key(nums, names, cap, n, i);
-        i += 1;
+    for i in 0..n {
+        keys[i] = path::key(row_path(nums, names, cap, n, i));
     }
 }
 
 // Whether row i is unbound, or no row before it has its path. Only where a key before it is the same are paths compared.
+#[tactic(auto, unfolding(crate::specs::Test::first_ok))]
 fn first_ok(nums: &[u64], names: &[u8], keys: &[u32], cap: usize, n: usize, i: usize) -> bool
     requires { Flat cap n nums.now names.now
         × Keys key_of (λ j. path_of (at (rows_of nums.now names.now n) j)) n keys.now
@@ -246,15 +205,14 @@ fn first_ok(nums: &[u64], names: &[u8], keys: &[u32], cap: usize, n: usize, i: u
     if !slot_rows::is_bound(nums, names, cap, n, i) {
         return true;
     }
-    if !has_key(keys, i, keys[i]) {
+    if !keys[..i].contains(&keys[i]) {
         return true;
     }
-    let k = slot_rows::path_len(nums, names, cap, n, i);
-    let from = i * MAX_PATH;
-    slot_rows::find_row(nums, names, cap, n, &names[from..from + k]) == i
+    slot_rows::find_row(nums, names, cap, n, row_path(nums, names, cap, n, i)) == i
 }
 
 // Whether row i is below the counter c, and its path is text and its own.
+#[tactic(auto, unfolding(crate::specs::Test::row_ok))]
 fn row_ok(nums: &[u64], names: &[u8], keys: &[u32], cap: usize, n: usize, c: u64, i: usize) -> bool
     requires { Flat cap n nums.now names.now
         × Keys key_of (λ j. path_of (at (rows_of nums.now names.now n) j)) n keys.now
@@ -264,9 +222,7 @@ fn row_ok(nums: &[u64], names: &[u8], keys: &[u32], cap: usize, n: usize, c: u64
     if c <= slot_rows::row_generation(nums, names, cap, n, i) {
         return false;
     }
-    let k = slot_rows::path_len(nums, names, cap, n, i);
-    let from = i * MAX_PATH;
-    if !text::is_text(&names[from..from + k]) {
+    if !text::is_text(row_path(nums, names, cap, n, i)) {
         return false;
     }
     first_ok(nums, names, keys, cap, n, i)
@@ -277,14 +233,7 @@ fn rows_ok(nums: &[u64], names: &[u8], keys: &[u32], cap: usize, n: usize, c: u6
     requires { Flat cap n nums.now names.now × Keys key_of (λ j. path_of (at (rows_of nums.now names.now n) j)) n keys.now }
     ensures { result ≡ all_of (row_ok c (rows_of nums.now names.now n)) 0 n }
 {
-    let mut i = 0;
-    while i < n {
-        if !row_ok(nums, names, keys, cap, n, c, i) {
-            return false;
-        }
-        i += 1;
-    }
-    true
+    (0..n).all(|i| row_ok(nums, names, keys, cap, n, c, i))
 }
 
 // The same, with the keys worked out here.
@@ -299,21 +248,8 @@ fn slots_ok(nums: &[u64], names: &[u8], cap: usize, n: usize, c: u64) -> bool
 
 // ---- the queue
 
-// Whether one of the first k cells is x.
-fn has_cell(q: [u8; 64], k: usize, x: u8) -> bool
-    requires { k ≤ 64 }
-    ensures { result ≡ has_num q k x }
-{
-    let mut hit = false;
-    let mut j = 0;
-    while j < k {
-        hit = struck(hit, q[j] as u32, x as u32);
-        j += 1;
-    }
-    hit
-}
-
 // Whether cell k is an unbound slot that no cell before it is.
+#[tactic(auto, using(slot_rows::proofs::InBuffers::length_rows), unfolding(crate::specs::Test::cell_ok))]
 fn cell_ok(nums: &[u64], names: &[u8], cap: usize, n: usize, q: [u8; 64], k: usize) -> bool
     requires { Flat cap n nums.now names.now × (k < 64) }
     ensures { result ≡ cell_ok (rows_of nums.now names.now n) q k }
@@ -326,7 +262,7 @@ fn cell_ok(nums: &[u64], names: &[u8], cap: usize, n: usize, q: [u8; 64], k: usi
     if slot_rows::is_bound(nums, names, cap, n, i) {
         return false;
     }
-    !has_cell(q, k, x)
+    !q[..k].contains(&x)
 }
 
 // Whether each cell of the queue is.
@@ -334,14 +270,7 @@ fn cells_ok(nums: &[u64], names: &[u8], cap: usize, n: usize, q: [u8; 64], free:
     requires { Flat cap n nums.now names.now × (free ≤ 64) }
     ensures { result ≡ all_of (cell_ok (rows_of nums.now names.now n) q) 0 free }
 {
-    let mut k = 0;
-    while k < free {
-        if !cell_ok(nums, names, cap, n, q, k) {
-            return false;
-        }
-        k += 1;
-    }
-    true
+    (0..free).all(|k| cell_ok(nums, names, cap, n, q, k))
 }
 
 // ---- directories
@@ -349,35 +278,14 @@ fn cells_ok(nums: &[u64], names: &[u8], cap: usize, n: usize, q: [u8; 64], free:
 // A directory is normal if its parent's row is and no slash from there on is idle, so only the last component is looked at. Rows that are
 // normal are one path only if they are the same bytes, so keys and comparisons go by bytes.
 
-// Whether all was the same so far, and a is b.
-fn still(same: bool, a: u8, b: u8) -> bool
-    ensures { result ≡ (same && eqb a b) }
-{
-    if a == b { same } else { false }
-}
-
-// Whether a and b, of one length, hold the same bytes.
-fn same_run(a: &[u8], b: &[u8]) -> bool
-    requires { length a.now ≡ length b.now }
-    ensures { result ≡ same_bytes a.now b.now }
-{
-    let mut same = true;
-    let mut i = 0;
-    while i < a.len() {
-        same = still(same, a[i], b[i]);
-        i += 1;
-    }
-    same
-}
-
-// The key of directory j.
-fn dir_key(dirs: &[u8], j: usize) -> u32
+// Directory j, where it stands in the buffer.
+fn dir_path(dirs: &[u8], j: usize) -> &[u8]
     requires { j * dir_width + dir_width ≤ length dirs.now }
-    ensures { result ≡ text_key (dir_at dirs.now j) }
+    ensures { result.now ≡ dir_at dirs.now j }
 {
     let k = dir_rows::dir_len(dirs, j);
     let at = j * DIR_WIDTH + 2;
-    path::text_key(&dirs[at..at + k])
+    &dirs[at..at + k]
 }
 
 // The keys of the directories.
@@ -385,14 +293,13 @@ fn dir_keys(dirs: &[u8], m: usize, keys: &mut [u32])
     requires { (m * dir_width ≤ length dirs.now) × (m ≤ length keys.old) }
     ensures { Keys text_key (dir_at dirs.now) m keys.new }
 {
-    let mut j = 0;
-    while j < m {
-        keys[j] = dir_key(dirs, j);
-        j += 1;
+    for j in 0..m {
+        keys[j] = path::text_key(dir_path(dirs, j));
     }
 }
 
 // Whether directory j is p, whose key is f, byte for byte.
+#[tactic(auto, using(crate::proofs::Turns::same_told), unfolding(crate::specs::Keys::is_dir))]
 fn dir_is(dirs: &[u8], keys: &[u32], j: usize, f: u32, p: &[u8]) -> bool
     requires { (j * dir_width + dir_width ≤ length dirs.now)
         × (j < length keys.now)
@@ -403,12 +310,7 @@ fn dir_is(dirs: &[u8], keys: &[u32], j: usize, f: u32, p: &[u8]) -> bool
     if keys[j] != f {
         return false;
     }
-    let k = dir_rows::dir_len(dirs, j);
-    if k != p.len() {
-        return false;
-    }
-    let at = j * DIR_WIDTH + 2;
-    same_run(&dirs[at..at + k], p)
+    dir_path(dirs, j) == p
 }
 
 // Whether p, whose key is f, is one of the first m directories, byte for byte.
@@ -416,14 +318,7 @@ fn has_dir(dirs: &[u8], keys: &[u32], m: usize, f: u32, p: &[u8]) -> bool
     requires { (m * dir_width ≤ length dirs.now) × Keys text_key (dir_at dirs.now) m keys.now × (f ≡ text_key p.now) }
     ensures { result ≡ has_dir dirs.now m p.now }
 {
-    let mut j = 0;
-    while j < m {
-        if dir_is(dirs, keys, j, f, p) {
-            return true;
-        }
-        j += 1;
-    }
-    false
+    (0..m).any(|j| dir_is(dirs, keys, j, f, p))
 }
 
 // The same, with a look at the rows beside row j first: there a directory's parent stands most often.
@@ -453,7 +348,7 @@ fn seen_before(dirs: &[u8], keys: &[u32], m: usize, j: usize, p: &[u8]) -> bool
         × (p.now ≡ dir_at dirs.now j) }
     ensures { result ≡ has_dir dirs.now j p.now }
 {
-    if !has_key(keys, j, keys[j]) {
+    if !keys[..j].contains(&keys[j]) {
         return false;
     }
     has_dir(dirs, keys, j, keys[j], p)
@@ -506,12 +401,11 @@ fn dir_ok(dirs: &[u8], keys: &[u32], m: usize, j: usize) -> bool
     requires { (m * dir_width ≤ length dirs.now) × Keys text_key (dir_at dirs.now) m keys.now × (j < m) }
     ensures { Judged (Fine dirs.now m j) dirs.now m result }
 {
-    let k = dir_rows::dir_len(dirs, j);
-    let at = j * DIR_WIDTH + 2;
-    if seen_before(dirs, keys, m, j, &dirs[at..at + k]) {
+    let x = dir_path(dirs, j);
+    if seen_before(dirs, keys, m, j, x) {
         return false;
     }
-    up_held(dirs, keys, m, j, &dirs[at..at + k])
+    up_held(dirs, keys, m, j, x)
 }
 
 // Whether each directory is normal, the first of its path, and its nearest ancestor a directory.
@@ -519,14 +413,7 @@ fn dirs_ok(dirs: &[u8], keys: &[u32], m: usize) -> bool
     requires { (m * dir_width ≤ length dirs.now) × Keys text_key (dir_at dirs.now) m keys.now }
     ensures { result ≡ all_of (dir_ok dirs.now m) 0 m }
 {
-    let mut j = 0;
-    while j < m {
-        if !dir_ok(dirs, keys, m, j) {
-            return false;
-        }
-        j += 1;
-    }
-    true
+    (0..m).all(|j| dir_ok(dirs, keys, m, j))
 }
 
 // The same, with the keys worked out here.
@@ -542,6 +429,7 @@ fn directories_ok(dirs: &[u8], m: usize) -> bool
 // ---- the whole
 
 // Whether what the buffers hold is as a pool's should be.
+#[tactic(auto, unfolding(crate::specs::Test::view_ok))]
 fn view_ok(nums: &[u64], names: &[u8], dirs: &[u8], pool: Pool) -> bool
     requires { Sized pool (length nums.now) (length names.now) (length dirs.now)
         × Flat pool.chosen.rows pool.held nums.now names.now }
@@ -562,6 +450,7 @@ fn view_ok(nums: &[u64], names: &[u8], dirs: &[u8], pool: Pool) -> bool
 }
 
 // Whether the record and its rows are a pool.
+#[tactic(auto, using(crate::proofs::FlatForms::sized), unfolding(crate::specs::Test::is_pool))]
 pub fn pool_ok(nums: &[u64], names: &[u8], dirs: &[u8], pool: Pool) -> bool
     ensures { result ≡ is_pool (bufs pool nums.now names.now dirs.now) }
 {

@@ -12,14 +12,10 @@ pub returns-then-not-is_due : goal.returns-then-not-is_due
 returns-then-not-is_due c =
     one_not _ _ _ _ _ c.requires.ready.pool (sym c.is_due.ensures ∙ c.if-not-is_due.true)
 
-pub sync_row-put-requires : goal.sync_row-put-requires
-sync_row-put-requires c =
-    let is-due = c.is_due in
-    let if1 = c.if-not-is_due in record { ready = c.requires.ready; i_lt_held = (c.requires.i_lt_held, due_bound _ _ (sym is-due.ensures ∙ if1.false)) }
+pub sync_row-put-requires-clause-i_lt_held : goal.sync_row-put-requires-clause-i_lt_held
+sync_row-put-requires-clause-i_lt_held c =
+    (c.requires.i_lt_held, due_bound _ _ (sym c.is_due.ensures ∙ c.if-not-is_due.false))
 
 pub returns : goal.returns
 returns c =
-    let is-due = c.is_due in
-    let if1 = c.if-not-is_due in
-    let sync-row = c.sync_row-put in
-    one_due _ _ _ _ _ (sym is-due.ensures ∙ if1.false) _ _ sync-row.ensures
+    one_due _ _ _ _ _ (sym c.is_due.ensures ∙ c.if-not-is_due.false) _ _ c.sync_row-put.ensures

@@ -1,51 +1,23 @@
 -- The invariant `Putting`: what is still to be written makes the whole of it.
 use Rattle.row_order.specs.InOrder.{inside_get}
-use Rattle.inner_list.proofs.Ways.{putting_start, putting_more, putting_end, next_fits, next_long}
+use Rattle.inner_list.proofs.Ways.{putting_more, putting_end, next_fits}
 use native.Mathlib.Omega.{arith}
 use Rattle.inner_list.proofs.put_entries.Goals as goal
 
-pub loop-i-init : goal.loop-i-init
-loop-i-init c =
-    putting_start _ _ _ _ _
-
-pub overflow_cast-a : goal.overflow_cast-a
-overflow_cast-a c =
-    omega (arith, inside_get _ _ _ c.requires.0 c.loop-i-test.true)
-
-pub overflow_add-a : goal.overflow_add-a
-overflow_add-a c =
-    omega (arith, inside_get _ _ _ c.requires.0 c.loop-i-test.true)
-
 pub slice_bounds-put_entry-end : goal.slice_bounds-put_entry-end
 slice_bounds-put_entry-end c =
-    omega (arith, inside_get _ _ _ c.requires.0 c.loop-i-test.true)
+    omega (arith, inside_get _ _ c.loop-x.x-index c.requires.0 (omega arith))
 
 pub put_entry-requires : goal.put_entry-requires
 put_entry-requires c =
-    next_fits _ _ _ _ _ _ _ _ c.loop-i.invariant c.requires.0 c.loop-i-test.true c.requires.1
+    next_fits _ _ _ _ _ _ _ _ c.loop-x.invariant c.requires.0 (omega arith) c.requires.1
 
-pub overflow_add-end : goal.overflow_add-end
-overflow_add-end c =
-    omega (
-      arith,
-      c.loop-i.invariant.reached,
-      (next_long _ _ _ _ _ _ _ _ c.loop-i.invariant c.requires.0 c.loop-i-test.true),
-    )
+pub loop-x-preserved : goal.loop-x-preserved
+loop-x-preserved c =
+    putting_more _ _ _ _ _ _ _ _ c.loop-x.invariant c.requires.0 (omega arith) _ c.put_entry.ensures
 
-pub overflow_add-end-in-loop-i : goal.overflow_add-end-in-loop-i
-overflow_add-end-in-loop-i c =
-    omega (
-      arith,
-      c.loop-i.invariant.reached,
-      (next_long _ _ _ _ _ _ _ _ c.loop-i.invariant c.requires.0 c.loop-i-test.true),
-    )
+pub returns-clause-end : goal.returns-clause-end
+returns-clause-end c = (putting_end _ _ _ _ _ _ _ _ c.loop-x.invariant (omega arith)).0
 
-pub loop-i-preserved : goal.loop-i-preserved
-loop-i-preserved c =
-    putting_more _ _ _ _ _ _ _ _ c.loop-i.invariant c.requires.0
-    c.loop-i-test.true _ c.put_entry.ensures
-
-pub returns : goal.returns
-returns c =
-    let all = putting_end _ _ _ _ _ _ _ _ c.loop-i.invariant c.loop-i-test.false in
-    record { end = all.0; written = all.1 }
+pub returns-clause-written : goal.returns-clause-written
+returns-clause-written c = (putting_end _ _ _ _ _ _ _ _ c.loop-x.invariant (omega arith)).1

@@ -1,14 +1,8 @@
 -- Carried by `entry_put`: three stores, one behind the other, are one.
 use mathlib.Core.Path.{refl}
-use lib.ListN.{length-set}
 use Rattle.lists.specs.Stores.{stored_back}
 use Rattle.inner_list.proofs.Ways.{entry_put}
-use native.Mathlib.Omega.{arith}
 use Rattle.inner_list.proofs.put_entry.Goals as goal
-
-pub put_at-requires : goal.put_at-requires
-put_at-requires c =
-    simp length-set (omega arith)
 
 pub returns : goal.returns
 returns c =

@@ -30,11 +30,6 @@ slice_bounds-size_of-end c =
     let f = files_front _ c.requires c.args.path.now _ _ (c.child_files-f.ensures.count, c.child_files-f.ensures.picked) in
     f.long
 
-pub size_of-requires : goal.size_of-requires
-size_of-requires c =
-    let f = files_front _ c.requires c.args.path.now _ _ (c.child_files-f.ensures.count, c.child_files-f.ensures.picked) in
-    f.few
-
 pub slice_bounds-folders-end : goal.slice_bounds-folders-end
 slice_bounds-folders-end c =
     let d = folders_front _ c.requires c.args.path.now _ _ (c.child_dirs-d.ensures.count, c.child_dirs-d.ensures.picked) in
@@ -44,11 +39,6 @@ pub slice_bounds-size_of-end-2 : goal.slice_bounds-size_of-end-2
 slice_bounds-size_of-end-2 c =
     let d = folders_front _ c.requires c.args.path.now _ _ (c.child_dirs-d.ensures.count, c.child_dirs-d.ensures.picked) in
     d.long
-
-pub size_of-requires-2 : goal.size_of-requires-2
-size_of-requires-2 c =
-    let d = folders_front _ c.requires c.args.path.now _ _ (c.child_dirs-d.ensures.count, c.child_dirs-d.ensures.picked) in
-    d.few
 
 pub overflow_add-size : goal.overflow_add-size
 overflow_add-size c =

@@ -5,10 +5,10 @@ use Rattle.pool_test.proofs.dir_fits.Goals as goal
 
 pub returns-then-k : goal.returns-then-k
 returns-then-k c =
-    fit_long c.args.dirs.now c.args.j (λ k. omega (arith, c.shared_slice_known-1.given k)) c.requires _ c.get_at-k.ensures c.if-k.true
+    fit_long c.args.dirs.now c.args.j (λ k. omega (arith, c.type_inv.dirs k)) c.requires _ c.get_at-k.ensures c.if-k.true
 
 pub returns : goal.returns
 returns c =
     fit_rest c.args.dirs.now c.args.j
-    (λ k. omega (arith, c.shared_slice_known-1.given k)) c.requires _
+    (λ k. omega (arith, c.type_inv.dirs k)) c.requires _
     c.get_at-k.ensures _ c.if-k.false c.greatest.ensures

@@ -1,12 +1,7 @@
--- Carried by `greatest_turn`: the greatest so far and of what is left is the greatest.
-use mathlib.Core.Path.{◌≡◌}
-use Prim.Native.Nat.{◌≤◌, ◌-◌, max}
-use lib.ListN.{length, drop}
+-- The greatest so far and of what is left is the greatest.
+use Rattle.std.proofs.Common.{◌≡◌, max, drop}
 use Rattle.text.specs.Greatest.{greatest}
 use Rattle.pool_test.proofs.top.Given as goal
 
-abbrev pub invariant-loop-i : goal.invariant-loop-i
-invariant-loop-i l = (l.i ≤ length l.s) × (max l.t (greatest (drop l.i l.s)) ≡ greatest l.s)
-
-abbrev pub decreases-loop-i : goal.decreases-loop-i
-decreases-loop-i l = length l.s - l.i
+abbrev pub invariant-loop-x : goal.invariant-loop-x
+invariant-loop-x l = max l.t (greatest (drop l.x-index l.s)) ≡ greatest l.s
