@@ -25,11 +25,9 @@ pub fn put_le(out: &mut [u8], at: usize, w: usize, x: u64) -> usize
 {
     let mut v = x;
     let mut a = at;
-    let mut i = 0;
-    while i < w {
+    for _ in 0..w {
         a = put_byte(out, a, (v % 256) as u8);
-        v = v / 256;
-        i += 1;
+        v /= 256;
     }
     a
 }
@@ -40,10 +38,8 @@ pub fn put_bytes(out: &mut [u8], at: usize, src: &[u8]) -> usize
     ensures { Puts src.now out.old out.new at result }
 {
     let mut a = at;
-    let mut i = 0;
-    while i < src.len() {
-        a = put_byte(out, a, src[i]);
-        i += 1;
+    for x in src {
+        a = put_byte(out, a, *x);
     }
     a
 }

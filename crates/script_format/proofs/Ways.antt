@@ -2,14 +2,11 @@
 use Prim.Native.Nat.{ℕ, zero, suc, ◌+◌, ◌-◌, ◌*◌, ◌^◌, ◌<◌, ◌≤◌}
 use mathlib.Core.Path.{◌≡◌, refl, ap, ◌∙◌}
 use mathlib.Core.Bool.{Bool, true, false}
-use mathlib.Core.List.{List, [], ◌∷◌, ◌++◌}
+use mathlib.Core.List.{List, [], ◌∷◌}
 use native.Mathlib.Omega.{arith}
-use native.Mathlib.Numerals.{add-one}
 use borrow.Author.Tests.{le-leb, lt-leb, lt-ltb, le-ltb, eq-eqb, ne_eqb}
 use lib.Dec.{leb}
-use lib.ListN.{length, get_or, take, set}
-use lib.Seq.{take-suc-set, append_snoc}
-use Rattle.lists.specs.Runs.{tab, tab_more}
+use lib.ListN.{length, get_or}
 use Rattle.le.specs.Le.{field}
 use Rattle.output.specs.Writer.{Shown, shown, pours}
 use Rattle.script_format.specs.declared.Span.{Span}
@@ -18,7 +15,7 @@ use Rattle.script_format.specs.declared.Op.{Op}
 use Rattle.script_format.specs.declared.Setup.{Setup}
 use Rattle.script_format.specs.Format.{span, no_span, span_at, span_if, run_in, row, last_code, form_of, no_form, is_code, no_op, op_of}
 use Rattle.script_format.specs.Reading.{behind_last}
-use Rattle.script_format.specs.Format.{generation_at, runs_at, args_of, op_at, limits_ok, no_setup, behind_plan, setup_at, length_at, patching, placed, patch_at, patched_m}
+use Rattle.script_format.specs.Format.{generation_at, runs_at, args_of, op_at, limits_ok, no_setup, behind_plan, setup_at, patching, placed, patch_at, patched_m}
 
 -- ---- runs
 
@@ -149,15 +146,6 @@ module _ (s : List ℕ) (slots rows dir_rows size : ℕ) (p : Span) (e : p ≡ s
         ≡ behind_plan s slots rows dir_rows size (span_at s 9)
     unfolding behind_plan
     setup_whole n h en = rw (← e, w, le-leb _ _ h, ← en)
-
--- physical lengths are written one by one
-pub lengths_turn : (f : ℕ → ℕ) (d : List ℕ) (k n : ℕ) → k < length d → k < n → take (k + 1) (set d k (f k)) ++ tab f (k + 1) (n - (k + 1)) ≡ take k d ++ tab f k (n - k)
-lengths_turn f d k n l m = rw (tab_more f n k m, add-one, take-suc-set) (append_snoc (take k d) (f k) _)
-
-pub lengths_set : (s : List ℕ) (i : ℕ) (d : List ℕ) (k n x : ℕ) → x ≡ field s (i + k * 4) 4 → k < length d → k < n
-    → take (k + 1) (set d k x) ++ tab (length_at s i) (k + 1) (n - (k + 1)) ≡ take k d ++ tab (length_at s i) k (n - k)
-unfolding length_at
-lengths_set s i d k n x e l m = ap (λ (y : ℕ). take (k + 1) (set d k y) ++ tab (length_at s i) (k + 1) (n - (k + 1))) e ∙ lengths_turn (length_at s i) d k n l m
 
 -- ---- patches
 

@@ -331,14 +331,13 @@ fn behind_plan(s: &[u8], slots: usize, rows: usize, dir_rows: usize, size: usize
 }
 
 // Fills phys with the lengths that stand at i, a u32 each.
+#[tactic(auto, unfolding(crate::specs::Format::length_at))]
 pub fn lengths(s: &[u8], i: usize, phys: &mut [u64])
     requires { i + length phys.old * 4 ≤ length s.now }
     ensures { phys.new ≡ tab (length_at s.now i) 0 (length phys.old) }
 {
-    let mut k = 0;
-    while k < phys.len() {
-        phys[k] = le::get_at(s, i + k * 4, 4);
-        k += 1;
+    for (k, x) in phys.iter_mut().enumerate() {
+        *x = le::get_at(s, i + k * 4, 4);
     }
 }
 
@@ -372,14 +371,12 @@ pub fn patch(s: &[u8], i: usize, count: usize, bytes: &mut [u8]) -> Span
     ensures { patching result bytes.new ≡ patched_m s.now count i bytes.old }
 {
     let mut at = i;
-    let mut k = 0;
-    while k < count {
+    for _ in 0..count {
         let run = patch_one(s, at, bytes);
         if !run.whole {
             return no_span();
         }
         at = run.to;
-        k += 1;
     }
     Span {
         from: at,

@@ -1,14 +1,14 @@
 -- The turns of the loops that write, and how far each goes.
+use Rattle.std.proofs.Common.{refl, ◌==◌, ◌∷◌}
+use Rattle.std.specs.List.{list_any}
 use Prim.Native.Nat.{ℕ, ◌+◌, ◌-◌, ◌*◌, ◌/◌, ◌%◌, ◌<◌, ◌≤◌}
 use mathlib.Core.Path.{◌≡◌, sym, ap, ◌∙◌}
 use mathlib.Core.Bool.{Bool, true, false}
 use mathlib.Core.List.{List, [], ◌++◌, append-nil}
 use native.Mathlib.Omega.{arith}
-use native.Mathlib.Numerals.{add-one}
 use native.Mathlib.Nat.{add-sub_cancel_left}
-use borrow.Author.Tests.{eq-eqb, ne_eqb}
-use lib.ListN.{length, get_or, take, drop, length-append, length-take, drop_of_length-le}
-use lib.Seq.{drop-cons, sets, sets-eq}
+use lib.ListN.{length, take, drop, length-append, length-take, drop_of_length-le}
+use lib.Seq.{sets, sets-eq}
 use Rattle.limits.specs.Limits.{dir_width}
 use Rattle.lists.specs.Blocks.{cat}
 use Rattle.lists.specs.Runs.{range, range_more, range_end}
@@ -28,18 +28,10 @@ use Rattle.script_tables.specs.Tables.{is_in, weight, marks_of, marks_at, row_sh
 
 -- ---- a byte that is sought
 
-module _ (x : ℕ) (s : List ℕ) (i : ℕ) (h : i < length s) where
-  pub in_here : get_or s i 0 ≡ x → is_in x (drop i s) ≡ true
-  unfolding is_in
-  in_here e = rw (drop-cons s i 0 h, eq-eqb _ _ e)
-
-  pub in_more : (get_or s i 0 ≡ x → ⊥) → is_in x (drop (i + 1) s) ≡ is_in x (drop i s)
-  unfolding is_in
-  in_more e = rw (drop-cons s i 0 h, ne_eqb _ _ e, add-one)
-
-pub in_none : (x : ℕ) (s : List ℕ) (i : ℕ) → length s ≤ i → false ≡ is_in x (drop i s)
+pub in_any : (x : ℕ) (s : List ℕ) → list_any (λ y. y == x) s ≡ is_in x s
 unfolding is_in
-in_none x s i h = rw (drop_of_length-le s {i = i} h)
+in_any x [] = refl
+in_any x (y ∷ s) = grind (arith, in_any x s)
 
 -- ---- output
 
@@ -73,9 +65,6 @@ part_spelled b x = ap (λ (k : ℕ). take k (drop (x / 512) b)) (add-sub_cancel_
 pub spelled_short : (b : List ℕ) (x : ℕ) → length (spelled b x) < 512
 unfolding spelled
 spelled_short b x = rw length-take (omega arith)
-
-pub part_short : (b : List ℕ) (x : ℕ) → length (take (x / 512 + x % 512 - x / 512) (drop (x / 512) b)) < 512
-part_short b x = rw (part_spelled b x) (spelled_short b x)
 
 -- ---- slot rows
 

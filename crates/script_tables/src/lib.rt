@@ -14,27 +14,13 @@ ghost use Rattle.device.specs.Device.{dev};
 ghost use Rattle.pool_state.specs.State.{bufs, view, IsPool};
 ghost use Rattle.row_order.specs.Spans.{in_order, span_before, spelled, dir_spans, AllInside};
 ghost use Rattle.output.specs.Writer.{Puts, run_of};
-ghost use Rattle.script_tables.specs.Tables.{is_in, weight, marks_at, row_shown, dirs_shown, pool_shown, record_shown, device_shown};
+ghost use Rattle.script_tables.specs.Tables.{weight, marks_at, row_shown, dirs_shown, pool_shown, record_shown, device_shown};
 
 use device::Place;
 use limits::MAX_PATH;
 use pool_state::Pool;
 
 // ---- slot rows
-
-// Whether x is one of the bytes.
-fn has(s: &[u8], x: usize) -> bool
-    ensures { result ≡ is_in x s.now }
-{
-    let mut i = 0;
-    while i < s.len() {
-        if s[i] as usize == x {
-            return true;
-        }
-        i += 1;
-    }
-    false
-}
 
 // The number if the flag is set, else 0.
 fn weigh(flag: bool, x: u64) -> u64
@@ -49,7 +35,7 @@ fn marks(nums: &[u64], names: &[u8], cap: usize, n: usize, i: usize, queue: &[u8
     ensures { result ≡ marks_at queue.now (rows_of nums.now names.now n) i }
 {
     let bound = weigh(slot_rows::is_bound(nums, names, cap, n, i), 1);
-    let queued = weigh(has(queue, i), 2);
+    let queued = weigh(queue.iter().any(|x| usize::from(*x) == i), 2);
     let dirty = weigh(slot_rows::is_dirty(nums, names, cap, n, i), 4);
     bound + queued + dirty
 }
@@ -95,10 +81,8 @@ fn put_rows(
     ensures few { result ≤ at + n * 512 }
 {
     let mut a = at;
-    let mut i = 0;
-    while i < n {
+    for i in 0..n {
         a = put_row(nums, names, cap, n, i, queue, out, a);
-        i += 1;
     }
     a
 }
@@ -112,13 +96,10 @@ fn put_spans(dirs: &[u8], spans: &[u32], out: &mut [u8], at: usize) -> usize
     ensures few { result ≤ at + length spans.now * 514 }
 {
     let mut a = at;
-    let mut i = 0;
-    while i < spans.len() {
-        let x = spans[i];
-        let from = (x / 512) as usize;
-        let k = (x % 512) as usize;
+    for x in spans {
+        let from = (*x / 512) as usize;
+        let k = (*x % 512) as usize;
         a = output::put_run(out, a, &dirs[from..from + k]);
-        i += 1;
     }
     a
 }
@@ -201,10 +182,8 @@ fn put_lengths(phys: &[u64], out: &mut [u8], at: usize) -> usize
     ensures few { result ≤ at + length phys.now * row_width }
 {
     let mut a = at;
-    let mut i = 0;
-    while i < phys.len() {
-        a = output::put_le(out, a, 4, phys[i]);
-        i += 1;
+    for x in phys {
+        a = output::put_le(out, a, 4, *x);
     }
     a
 }
