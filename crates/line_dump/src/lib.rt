@@ -6,13 +6,12 @@
 ghost use Rattle.std.specs.Prelude.{◌≡◌, ◌+◌, ◌*◌, ◌^◌, ◌≤◌, ◌<◌, length};
 ghost use Rattle.limits.specs.Limits.{dir_width};
 ghost use Rattle.lists.specs.Blocks.{cat};
-ghost use Rattle.lists.specs.Sort.{sort};
 ghost use Rattle.slot_rows.specs.Rows.{rows_of, Flat};
 ghost use Rattle.dir_rows.specs.Rows.{dirs_of};
 ghost use Rattle.pool_state.specs.State.{bufs, view, IsPool};
-ghost use Rattle.row_order.specs.Spans.{SpanInside, AllInside, spelled, slot_of, file_spans, dir_spans};
+ghost use Rattle.row_order.specs.Spans.{SpanInside, AllInside, spelled, slot_of};
 ghost use Rattle.output.specs.Writer.{Puts, PutsAll};
-ghost use Rattle.line_dump.specs.Dump.{path_end, bit_of, file_numbers, file_line, dir_line, files_text, dirs_text, dump_text};
+ghost use Rattle.line_dump.specs.Dump.{path_end, file_numbers, file_line, dir_line, files_text, dirs_text, dump_text};
 ghost use Rattle.line_dump.specs.Dump.{dump_answer, SlotsBelow};
 
 use limits::MAX_PATH;
@@ -26,16 +25,6 @@ fn put_path(out: &mut [u8], at: usize, path: &[u8]) -> usize
     let a = output::put_byte(out, at, b' ');
     let b = output::put_bytes(out, a, path);
     output::put_byte(out, b, b'\n')
-}
-
-// 1 for a dirty file, 0 for a clean one.
-fn bit(dirty: bool) -> u64
-    ensures { result ≡ bit_of dirty }
-{
-    if dirty {
-        return 1;
-    }
-    0
 }
 
 // The front of a file's line, up to its path.
@@ -74,7 +63,7 @@ fn put_file(
     let end = start + slot_rows::path_len(nums, names, cap, n, i);
     let generation = slot_rows::row_generation(nums, names, cap, n, i);
     let len = slot_rows::row_len(nums, names, cap, n, i);
-    let dirty = bit(slot_rows::is_dirty(nums, names, cap, n, i));
+    let dirty = u64::from(slot_rows::is_dirty(nums, names, cap, n, i));
     let a = put_numbers(i, generation, len, dirty, out, at);
     put_path(out, a, &names[start..end])
 }
@@ -93,33 +82,10 @@ fn put_files(
     ensures { Puts (cat (λ x. file_line (rows_of nums.now names.now n) (slot_of x)) spans.now) out.old out.new at result }
 {
     let mut a = at;
-    let mut k = 0;
-    while k < spans.len() {
-        let i = row_order::slot_of(spans[k]);
-        a = put_file(nums, names, cap, n, i, out, a);
-        k += 1;
+    for x in spans {
+        a = put_file(nums, names, cap, n, row_order::slot_of(*x), out, a);
     }
     a
-}
-
-// The lines of all files, whose spans are lent by slot.
-fn put_sorted_files(
-    nums: &[u64],
-    names: &[u8],
-    cap: usize,
-    n: usize,
-    spans: &mut [u32],
-    out: &mut [u8],
-    at: usize,
-) -> usize
-    requires { Flat cap n nums.now names.now
-        × (spans.old ≡ file_spans (rows_of nums.now names.now n))
-        × (n ≤ 64)
-        × (at + 38400 < 2 ^ 64) }
-    ensures { Puts (files_text (rows_of nums.now names.now n)) out.old out.new at result }
-{
-    row_order::sort(names, spans);
-    put_files(nums, names, cap, n, spans, out, at)
 }
 
 // The lines of all files.
@@ -136,7 +102,9 @@ fn put_all_files(
 {
     let mut spans = [0u32; 64];
     let count = row_order::all_files(nums, names, cap, n, &mut spans);
-    put_sorted_files(nums, names, cap, n, &mut spans[..count], out, at)
+    let held = &mut spans[..count];
+    row_order::sort(names, held);
+    put_files(nums, names, cap, n, held, out, at)
 }
 
 // The line of the directory whose spelling is the part x.
@@ -156,21 +124,10 @@ fn put_dirs(dirs: &[u8], spans: &[u32], out: &mut [u8], at: usize) -> usize
     ensures { Puts (cat (λ x. dir_line (spelled dirs.now x)) spans.now) out.old out.new at result }
 {
     let mut a = at;
-    let mut k = 0;
-    while k < spans.len() {
-        a = put_dir(dirs, spans[k], out, a);
-        k += 1;
+    for x in spans {
+        a = put_dir(dirs, *x, out, a);
     }
     a
-}
-
-// The lines of all directories, whose spans are lent by row.
-fn put_sorted_dirs(dirs: &[u8], m: usize, spans: &mut [u32], out: &mut [u8], at: usize) -> usize
-    requires { (m * dir_width ≤ length dirs.now) × (spans.old ≡ dir_spans (dirs_of dirs.now m)) × (m ≤ 256) × (at + 153600 < 2 ^ 64) }
-    ensures { Puts (dirs_text (dirs_of dirs.now m)) out.old out.new at result }
-{
-    row_order::sort(dirs, spans);
-    put_dirs(dirs, spans, out, at)
 }
 
 // The lines of all directories.
@@ -180,7 +137,9 @@ fn put_all_dirs(dirs: &[u8], m: usize, out: &mut [u8], at: usize) -> usize
 {
     let mut spans = [0u32; 256];
     row_order::all_dirs(dirs, m, &mut spans);
-    put_sorted_dirs(dirs, m, &mut spans[..m], out, at)
+    let held = &mut spans[..m];
+    row_order::sort(dirs, held);
+    put_dirs(dirs, held, out, at)
 }
 
 // A pool, line by line.

@@ -3,13 +3,16 @@ use Prim.Native.Nat.{ℕ, suc, ◌+◌, ◌-◌, ◌≤◌, ◌<◌}
 use native.Mathlib.Omega.{arith}
 use native.Mathlib.Nat.{zero-add}
 use native.Mathlib.Numerals.{add-one}
-use mathlib.Core.Path.{◌≡◌, refl, sym, subst, ◌∙◌}
-use mathlib.Core.Bool.{Bool, true, false}
+use mathlib.Core.Path.{◌≡◌, refl, sym, ap, subst, ◌∙◌}
+use mathlib.Core.Bool.{Bool, true, false, cond}
 use mathlib.Core.List.{List, [], ◌∷◌}
 use lib.Dec.{eqb, ltb}
-use lib.ListN.{length, get_or, take, drop, length-drop, drop_of_length-le}
-use lib.Seq.{drop-cons, drop-drop, length-take-le}
-use borrow.Author.Tests.{eq-eqb, ne_eqb, lt-ltb, le-ltb}
+use lib.ListN.{length, take, drop, length-drop}
+use lib.Seq.{drop-drop, length-take-le, take_all}
+use borrow.Author.Tests.{eq-eqb, ne_eqb, lt-ltb, le-ltb, ltb-false}
+use Rattle.std.specs.Prelude.{Some, None}
+use Rattle.std.specs.List.{position, position_or_len}
+use Rattle.std.proofs.lemmas.List.Recursion.{is_position_or_len}
 use Rattle.lists.specs.Same.{same_bytes}
 use Rattle.path.specs.Path.{cut, grow}
 use Rattle.line_words.specs.Words.{words_of, run_len}
@@ -20,18 +23,34 @@ use Rattle.line_words.specs.declared.Command.TheVariants.{Create, Sync, Remove, 
 
 -- ---- the end of a run
 
-module _ (s : List ℕ) (stop i : ℕ) where
-  pub at_stop : i < length s → get_or s i 0 ≡ stop → i + run_len stop (drop i s) ≡ i
-  unfolding run_len
-  at_stop h e = let z : eqb (get_or s i 0) stop ≡ true = eq-eqb (get_or s i 0) stop e in rw (drop-cons s i 0 h, z) (omega arith)
+-- `&s[a..]` is all from a on
+pub from_on : (a : ℕ) (s : List ℕ) → take (length s - a) (drop a s) ≡ drop a s
+from_on a s = take_all (length s - a) (drop a s) (rw length-drop (omega arith))
 
-  pub no_stop : i < length s → (get_or s i 0 ≡ stop → ⊥) → i + 1 + run_len stop (drop (i + 1) s) ≡ i + run_len stop (drop i s)
-  unfolding run_len
-  no_stop h e = let z : eqb (get_or s i 0) stop ≡ false = ne_eqb (get_or s i 0) stop e in rw (add-one, drop-cons s i 0 h, z) (omega arith)
+run_is : (stop : ℕ) (s : List ℕ) → run_len stop s ≡ position_or_len (λ b. eqb b stop) s
+unfolding run_len
+run_is stop s = is_position_or_len (run_len stop) (λ b. eqb b stop) refl (λ b t. ap (cond (eqb b stop) 0) (omega arith)) s
 
-  pub at_end : length s ≤ i → i + run_len stop (drop i s) ≡ i
-  unfolding run_len
-  at_end h = rw (drop_of_length-le s h) (omega arith)
+module _ (stop i : ℕ) (s : List ℕ) where
+  abbrev pub part : List ℕ
+  part = take (length s - i) (drop i s)
+
+  pub run_at : {k : ℕ} → Some k ≡ position (λ b. eqb b stop) part → i + k ≡ i + run_len stop (drop i s)
+  run_at {k} e = ap (λ (j : ℕ). i + j) (rw (← from_on i s) (go (ltb (position_or_len (λ b. eqb b stop) part) (length part)) e))
+    where
+      go : (t : Bool) → Some k ≡ cond t (Some (position_or_len (λ b. eqb b stop) part)) None → k ≡ run_len stop part
+      go true f = cc (run_is stop part)
+      go false f = cc
+
+  pub run_none : i ≤ length s → None ≡ position (λ b. eqb b stop) part → length s ≡ i + run_len stop (drop i s)
+  run_none h e =
+      let z : run_len stop part ≡ length part = go (ltb (position_or_len (λ b. eqb b stop) part) (length part)) refl e in
+      omega (arith, rw from_on at z, length-drop i s)
+    where
+      go : (t : Bool) → ltb (position_or_len (λ b. eqb b stop) part) (length part) ≡ t
+          → None ≡ cond t (Some (position_or_len (λ b. eqb b stop) part)) None → run_len stop part ≡ length part
+      go true f g = cc
+      go false f g = omega (arith, run_is stop part, run_fits stop part, ltb-false _ _ f)
 
 -- ---- forms
 

@@ -2,7 +2,8 @@
 // long, or of no form, is a command too. The Rust has no such program.
 #![tactic(auto)]
 
-ghost use Rattle.std.specs.Prelude.{◌≡◌, ◌+◌, ◌-◌, ◌≤◌, ◌<◌, length, take, drop};
+ghost use Rattle.std.specs.Prelude.{◌≡◌, ◌+◌, ◌-◌, ◌≤◌, ◌<◌, ◌==◌, length, take, drop};
+ghost use Rattle.std.specs.List.{position};
 ghost use Rattle.line_words.specs.Words.{run_len};
 ghost use Rattle.line_words.specs.Commands.{Means, one_word, two_words, three_words, request_of};
 
@@ -21,19 +22,22 @@ pub enum Command {
     What,
 }
 
+// Where the first `stop` is, if there is one.
+fn first(s: &[u8], stop: u8) -> Option<usize>
+    ensures { result ≡ position (λ b. b == stop) s.now }
+{
+    s.iter().position(|b| *b == stop)
+}
+
 // Where the run of bytes that starts at `from` ends: at the next `stop`, or at the end.
 pub fn run_end(s: &[u8], from: usize, stop: u8) -> usize
     requires { from ≤ length s.now }
     ensures { result ≡ from + run_len stop (drop from s.now) }
 {
-    let mut i = from;
-    while i < s.len() {
-        if s[i] == stop {
-            return i;
-        }
-        i += 1;
+    match first(&s[from..], stop) {
+        Some(k) => from + k,
+        None => s.len(),
     }
-    i
 }
 
 // The command of a line of one word.

@@ -84,8 +84,7 @@ fn flags() {
 
 // The longest path: a/b and zeros, which are text, up to the block's end.
 fn longest() {
-    let h = Header::decode(changed(8, 480, 0x9e70_70a4), 512);
-    let Some(h) = h else {
+    let Some(h) = Header::decode(changed(8, 480, 0x9e70_70a4), 512) else {
         say(b"path length 480: differs: absent\n");
         return;
     };
@@ -106,13 +105,14 @@ fn refusals() {
 // A path of 481 bytes ends behind the block. Whatever byte lies there, a block whose check takes it
 // in says nothing. A text ends in a byte below 192, and in one from 128 on only behind a first byte.
 fn behind() {
-    let mut found = 0u64;
-    let mut b = 0u8;
-    while b < 192 {
-        found = std::num::wrapping_add_u64(found, says(long(b)));
-        b += 1;
-    }
-    number(b"path length 481 with any byte behind the block", found, 0);
+    let found = (0..192u8)
+        .filter(|b| Header::decode(long(*b), 512).is_some())
+        .count();
+    number(
+        b"path length 481 with any byte behind the block",
+        found as u64,
+        0,
+    );
 }
 
 // The block of a path that begins with a/b and ends in a byte behind the block.
@@ -140,15 +140,6 @@ fn begun(last: u8) -> [u8; 512] {
     block
 }
 
-// 1 if a block says something, else 0.
-fn says(block: [u8; 512]) -> u64 {
-    let d = Header::decode(block, 512);
-    match d {
-        None => 0,
-        Some(h) => 1,
-    }
-}
-
 // The block of `a/b` with another number in the four bytes from `at` on, and this check.
 fn changed(at: usize, x: u64, check: u64) -> [u8; 512]
     requires { at ≤ 508 }
@@ -170,11 +161,10 @@ fn header_of(path: &[u8]) -> [u8; 512] {
 
 // A block of which n bytes were read, and that must say nothing.
 fn absent(name: &[u8], block: [u8; 512], n: usize) {
-    let d = Header::decode(block, n);
     say(name);
-    match d {
+    match Header::decode(block, n) {
         None => say(b": ok\n"),
-        Some(h) => say(b": differs: a header was found\n"),
+        Some(_) => say(b": differs: a header was found\n"),
     }
 }
 
@@ -211,7 +201,7 @@ fn number(name: &[u8], got: u64, want: u64) {
 // A run of bytes that came out, and the one that should.
 fn run(name: &[u8], got: &[u8], want: &[u8]) {
     say(name);
-    if check::same(got, want) {
+    if got == want {
         say(b": ok\n");
         return;
     }
@@ -223,15 +213,9 @@ fn run(name: &[u8], got: &[u8], want: &[u8]) {
 }
 
 fn hex(s: &[u8]) {
-    let mut i = 0;
-    while i < s.len() {
-        let _ = io::print_hex(STDOUT_FILENO, wide(s[i]), 2);
-        i += 1;
+    for b in s {
+        let _ = io::print_hex(STDOUT_FILENO, u64::from(*b), 2);
     }
-}
-
-fn wide(b: u8) -> u64 {
-    b as u64
 }
 
 fn say(s: &[u8]) {

@@ -1,20 +1,33 @@
--- The spans that were written are those of all files: `files_front`.
-use Rattle.line_dump.proofs.Spans.{files_front}
-use native.Mathlib.Omega.{arith}
-use mathlib.Core.Path.{ap}
-use lib.ListN.{length, replicate}
+-- The spans that were written are those of all files (`files_front`); sorted, they stand for the files in their order: `files_put`.
+use Rattle.std.proofs.Common.{ℕ, List, ap, sym, subst, ◌∙◌, length, replicate, arith}
+use Rattle.lists.specs.Sort.{sort}
+use Rattle.row_order.specs.Spans.{AllInside, span_before}
+use Rattle.line_dump.proofs.Spans.{files_front, files_inside}
+use Rattle.line_dump.proofs.Ways.{sorted_held, sorted_few, files_put}
 use Rattle.line_dump.proofs.put_all_files.Goals as goal
 
 pub slice_bounds-spans-end : goal.slice_bounds-spans-end
 slice_bounds-spans-end c =
     (files_front _ _ _ _ c.requires.0 (replicate 64 0) _ _ c.all_files-count.ensures.0 c.all_files-count.ensures.1 c.requires.1).0
 
-pub slice_bounds-put_sorted_files-end : goal.slice_bounds-put_sorted_files-end
-slice_bounds-put_sorted_files-end c =
+pub slice_bounds-held-end : goal.slice_bounds-held-end
+slice_bounds-held-end c =
     let f = files_front _ _ _ _ c.requires.0 (replicate 64 0) _ _ c.all_files-count.ensures.0 c.all_files-count.ensures.1 c.requires.1 in
     omega (arith, c.all_files-count.ensures.0, ap length f.1)
 
-pub put_sorted_files-requires : goal.put_sorted_files-requires
-put_sorted_files-requires c =
+pub sort-requires : goal.sort-requires
+sort-requires c =
     let f = files_front _ _ _ _ c.requires.0 (replicate 64 0) _ _ c.all_files-count.ensures.0 c.all_files-count.ensures.1 c.requires.1 in
-    (c.requires.0, f.1, c.requires.1, c.requires.2)
+    subst (λ (x : List ℕ). AllInside c.args.names.now x) (sym f.1) (files_inside _ _ _ _ c.requires.0)
+
+pub put_files-requires : goal.put_files-requires
+put_files-requires c =
+    let f = files_front _ _ _ _ c.requires.0 (replicate 64 0) _ _ c.all_files-count.ensures.0 c.all_files-count.ensures.1 c.requires.1 in
+    let e = c.sort.ensures ∙ ap (sort (span_before c.args.names.now)) f.1 in
+    (c.requires.0, sorted_held _ _ _ _ c.requires.0 e, omega (arith, c.requires.2, sorted_few _ _ _ _ c.requires.0 e))
+
+pub returns : goal.returns
+returns c =
+    let f = files_front _ _ _ _ c.requires.0 (replicate 64 0) _ _ c.all_files-count.ensures.0 c.all_files-count.ensures.1 c.requires.1 in
+    let e = c.sort.ensures ∙ ap (sort (span_before c.args.names.now)) f.1 in
+    files_put _ _ _ _ c.requires.0 e _ c.put_files.ensures

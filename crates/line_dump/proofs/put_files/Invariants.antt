@@ -1,7 +1,5 @@
 -- The invariant: what is left to put out makes the whole. `cat_turn` passes a line.
-use Prim.Native.Nat.{◌≤◌, ◌+◌, ◌*◌, ◌-◌}
-use mathlib.Core.Path.{◌≡◌}
-use lib.ListN.{length, drop}
+use Rattle.std.proofs.Common.{◌≡◌, ◌+◌, ◌*◌, ◌≤◌, drop}
 use Rattle.lists.specs.Blocks.{cat}
 use Rattle.slot_rows.specs.Rows.{rows_of}
 use Rattle.output.specs.Writer.{shown, pours}
@@ -9,8 +7,9 @@ use Rattle.row_order.specs.Spans.{slot_of}
 use Rattle.line_dump.specs.Dump.{file_line}
 use Rattle.line_dump.proofs.put_files.Given as goal
 
-abbrev pub invariant-loop-k : goal.invariant-loop-k
-invariant-loop-k l = (l.k ≤ length l.spans) × (l.a ≤ l.at + l.k * 600) × (pours (cat (λ x. file_line (rows_of l.nums l.names l.n) (slot_of x)) (drop l.k l.spans)) (shown l.out l.a) ≡ pours (cat (λ x. file_line (rows_of l.nums l.names l.n) (slot_of x)) l.spans) (shown l.initial.out l.at)) × (length l.out ≡ length l.initial.out)
-
-abbrev pub decreases-loop-k : goal.decreases-loop-k
-decreases-loop-k l = length l.spans - l.k
+abbrev pub invariant-loop-x : goal.invariant-loop-x
+invariant-loop-x l = record {
+  few : l.a ≤ l.at + l.x-index * 600;
+  left : pours (cat (λ x. file_line (rows_of l.nums l.names l.n) (slot_of x)) (drop l.x-index l.spans)) (shown l.out l.a)
+      ≡ pours (cat (λ x. file_line (rows_of l.nums l.names l.n) (slot_of x)) l.spans) (shown l.initial.out l.at);
+}
