@@ -1,5 +1,7 @@
 -- Carried by `entry_put`: three stores, one behind the other, are one.
 use mathlib.Core.Path.{refl}
+use lib.ListN.{length-set}
+use native.Mathlib.Omega.{arith}
 use Rattle.lists.specs.Stores.{stored_back}
 use Rattle.inner_list.proofs.Ways.{entry_put}
 use Rattle.inner_list.proofs.put_entry.Goals as goal
