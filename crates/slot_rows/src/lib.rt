@@ -10,6 +10,7 @@ ghost use Rattle.lists.specs.Blocks.{pad};
 ghost use Rattle.path.specs.Path.{same_path, key_of};
 ghost use Rattle.slot_rows.specs.Rows.{file, at, unbound, bound, is_bound, path_of, gen_of, len_of, is_dirty, resized, cleaned, holds};
 ghost use Rattle.slot_rows.specs.Rows.{find, mark_of, row_nums, rows_of, Flat};
+ghost use Rattle.slot_rows.specs.Held.{held, Lie};
 
 use limits::{MAX_PATH, ROW_WIDTH};
 
@@ -39,59 +40,105 @@ pub fn put_nums(nums: &mut [u64], i: usize, mark: u64, path_len: u64, len: u64, 
 
 // ---- what a row says
 
-// Number k of row i.
-#[tactic(auto, using(crate::proofs::InBuffers::row_fits_lem, crate::proofs::InBuffers::num_at))]
-fn num(nums: &[u64], names: &[u8], cap: usize, n: usize, i: usize, k: usize) -> u64
-    requires { Flat cap n nums.now names.now × (i < n) × (k < 4) }
-    ensures { result ≡ get_or (row_nums (at (rows_of nums.now names.now n) i)) k 0 }
-{
-    let o = i * ROW_WIDTH + k;
-    nums[o]
+// A pool's slot rows, to be read: the buffers that they lie in, how many rows there is room for, and how many are held.
+#[derive(Clone, Copy)]
+pub struct Rows<'a> {
+    pub nums: &'a [u64],
+    pub names: &'a [u8],
+    pub cap: usize,
+    pub n: usize,
 }
 
-// Whether row i is bound.
-#[tactic(auto, using(crate::proofs::Fields::mark_bound))]
-pub fn is_bound(nums: &[u64], names: &[u8], cap: usize, n: usize, i: usize) -> bool
-    requires { Flat cap n nums.now names.now × (i < n) }
-    ensures { result ≡ is_bound (at (rows_of nums.now names.now n) i) }
-{
-    num(nums, names, cap, n, i, 0) != 0
+impl<'a> Rows<'a> {
+    // Number k of row i.
+    #[tactic(auto, using(crate::proofs::InBuffers::row_fits_lem, crate::proofs::InBuffers::num_at))]
+    fn num(&self, i: usize, k: usize) -> u64
+        requires { Lie self.now × (i < self.now.n) × (k < 4) }
+        ensures { result ≡ get_or (row_nums (at (held self.now) i)) k 0 }
+    {
+        let o = i * ROW_WIDTH + k;
+        self.nums[o]
+    }
+
+    // Whether row i is bound.
+    #[tactic(auto, using(crate::proofs::Fields::mark_bound))]
+    pub fn is_bound(&self, i: usize) -> bool
+        requires { Lie self.now × (i < self.now.n) }
+        ensures { result ≡ is_bound (at (held self.now) i) }
+    {
+        self.num(i, 0) != 0
+    }
+
+    // Whether row i is dirty.
+    #[tactic(auto, using(crate::proofs::Fields::mark_dirty))]
+    pub fn is_dirty(&self, i: usize) -> bool
+        requires { Lie self.now × (i < self.now.n) }
+        ensures { result ≡ is_dirty (at (held self.now) i) }
+    {
+        self.num(i, 0) == 2
+    }
+
+    // Row i's path, where it lies in the names; empty for an unbound row.
+    #[tactic(auto, using(crate::proofs::InBuffers::row_fits_lem, crate::proofs::InBuffers::name_part, crate::proofs::Fields::num_path))]
+    pub fn path(&self, i: usize) -> &'a [u8]
+        requires { Lie self.now × (i < self.now.n) }
+        ensures { result.now ≡ path_of (at (held self.now) i) }
+    {
+        let k = self.num(i, 1) as usize;
+        let from = i * MAX_PATH;
+        &self.names[from..from + k]
+    }
+
+    // The file length of row i.
+    #[tactic(auto, using(crate::proofs::Fields::num_len))]
+    pub fn row_len(&self, i: usize) -> u64
+        requires { Lie self.now × (i < self.now.n) }
+        ensures { result ≡ len_of (at (held self.now) i) }
+    {
+        self.num(i, 2)
+    }
+
+    // The generation of row i.
+    #[tactic(auto, using(crate::proofs::Fields::num_generation))]
+    pub fn row_generation(&self, i: usize) -> u64
+        requires { Lie self.now × (i < self.now.n) }
+        ensures { result ≡ gen_of (at (held self.now) i) }
+    {
+        self.num(i, 3)
+    }
+
+    // Whether row i is bound to a path equal to p, whose key is given.
+    #[tactic(auto, using(crate::proofs::Finding::holds_path, crate::proofs::Finding::holds_unbound))]
+    pub fn row_is(&self, i: usize, p: &[u8], key: u32) -> bool
+        requires { Lie self.now × (i < self.now.n) × (key ≡ key_of p.now) }
+        ensures { result ≡ holds p.now (at (held self.now) i) }
+    {
+        self.is_bound(i) && spells(self.path(i), p, key)
+    }
+
+    // The first row that is bound to a path equal to p, or n.
+    pub fn find_row(&self, p: &[u8]) -> usize
+        requires { Lie self.now }
+        ensures row { result ≡ find p.now (held self.now) }
+        ensures few { result ≤ self.now.n }
+    {
+        let key = path::key(p);
+        for i in 0..self.n {
+            if self.row_is(i, p, key) {
+                return i;
+            }
+        }
+        self.n
+    }
 }
 
-// Whether row i is dirty.
-#[tactic(auto, using(crate::proofs::Fields::mark_dirty))]
-pub fn is_dirty(nums: &[u64], names: &[u8], cap: usize, n: usize, i: usize) -> bool
-    requires { Flat cap n nums.now names.now × (i < n) }
-    ensures { result ≡ is_dirty (at (rows_of nums.now names.now n) i) }
+// Whether q spells the path p, whose key is given: paths with two keys are not walked.
+#[tactic(auto, using(path::proofs::Theorems::key_other))]
+fn spells(q: &[u8], p: &[u8], key: u32) -> bool
+    requires { key ≡ key_of p.now }
+    ensures { result ≡ same_path q.now p.now }
 {
-    num(nums, names, cap, n, i, 0) == 2
-}
-
-// The length of row i's path, which starts at byte i * 480 of the names; 0 for an unbound row.
-#[tactic(auto, using(crate::proofs::Fields::num_path))]
-pub fn path_len(nums: &[u64], names: &[u8], cap: usize, n: usize, i: usize) -> usize
-    requires { Flat cap n nums.now names.now × (i < n) }
-    ensures { result ≡ length (path_of (at (rows_of nums.now names.now n) i)) }
-{
-    num(nums, names, cap, n, i, 1) as usize
-}
-
-// The file length of row i.
-#[tactic(auto, using(crate::proofs::Fields::num_len))]
-pub fn row_len(nums: &[u64], names: &[u8], cap: usize, n: usize, i: usize) -> u64
-    requires { Flat cap n nums.now names.now × (i < n) }
-    ensures { result ≡ len_of (at (rows_of nums.now names.now n) i) }
-{
-    num(nums, names, cap, n, i, 2)
-}
-
-// The generation of row i.
-#[tactic(auto, using(crate::proofs::Fields::num_generation))]
-pub fn row_generation(nums: &[u64], names: &[u8], cap: usize, n: usize, i: usize) -> u64
-    requires { Flat cap n nums.now names.now × (i < n) }
-    ensures { result ≡ gen_of (at (rows_of nums.now names.now n) i) }
-{
-    num(nums, names, cap, n, i, 3)
+    path::key(q) == key && path::same_path(q, p)
 }
 
 // ---- rows made and changed
@@ -179,7 +226,13 @@ pub fn clean_row(nums: &mut [u64], names: &[u8], cap: usize, n: usize, i: usize)
         ≡ set (rows_of nums.old names.now n) i (cleaned (at (rows_of nums.old names.now n) i)) }
     ensures flat { Flat cap n nums.new names.now }
 {
-    let len = row_len(nums, names, cap, n, i);
+    let len = Rows {
+        nums,
+        names,
+        cap,
+        n,
+    }
+    .row_len(i);
     set_row_len(nums, names, cap, n, i, len, false);
 }
 
@@ -190,47 +243,4 @@ pub fn clear_rows(nums: &mut [u64], names: &mut [u8])
 {
     nums.fill(0);
     names.fill(0);
-}
-
-// ---- the row of a path
-
-// Whether q spells the path p, whose key is given: paths with two keys are not walked.
-#[tactic(auto, using(path::proofs::Theorems::key_other))]
-fn spells(q: &[u8], p: &[u8], key: u32) -> bool
-    requires { key ≡ key_of p.now }
-    ensures { result ≡ same_path q.now p.now }
-{
-    if path::key(q) != key {
-        return false;
-    }
-    path::same_path(q, p)
-}
-
-// Whether row i is bound to a path equal to p, whose key is given.
-#[tactic(auto, using(crate::proofs::InBuffers::row_fits_lem, crate::proofs::InBuffers::name_part, crate::proofs::Fields::row_spells, crate::proofs::Finding::holds_unbound))]
-pub fn row_is(nums: &[u64], names: &[u8], cap: usize, n: usize, i: usize, p: &[u8], key: u32) -> bool
-    requires { Flat cap n nums.now names.now × (i < n) × (key ≡ key_of p.now) }
-    ensures { result ≡ holds p.now (at (rows_of nums.now names.now n) i) }
-{
-    if is_bound(nums, names, cap, n, i) {
-        let k = path_len(nums, names, cap, n, i);
-        let from = i * MAX_PATH;
-        return spells(&names[from..from + k], p, key);
-    }
-    false
-}
-
-// The first row that is bound to a path equal to p, or n.
-pub fn find_row(nums: &[u64], names: &[u8], cap: usize, n: usize, p: &[u8]) -> usize
-    requires { Flat cap n nums.now names.now }
-    ensures row { result ≡ find p.now (rows_of nums.now names.now n) }
-    ensures few { result ≤ n }
-{
-    let key = path::key(p);
-    for i in 0..n {
-        if row_is(nums, names, cap, n, i, p, key) {
-            return i;
-        }
-    }
-    n
 }

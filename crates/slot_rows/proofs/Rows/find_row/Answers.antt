@@ -3,7 +3,7 @@ use mathlib.Core.Path.{sym, ◌∙◌}
 use native.Mathlib.Omega.{arith}
 use Rattle.slot_rows.proofs.InBuffers.{length_rows}
 use Rattle.slot_rows.proofs.Search.{found_here, found_later, found_none}
-use Rattle.slot_rows.proofs.find_row.Goals as goal
+use Rattle.slot_rows.proofs.Rows.find_row.Goals as goal
 
 pub returns-then-row_is-clause-row : goal.returns-then-row_is-clause-row
 returns-then-row_is-clause-row c =

@@ -1,0 +1,11 @@
+-- The invariant: what is counted and what is left to join are the whole. `len_turn` counts one component.
+use Rattle.std.proofs.Common.{◌≡◌, ◌+◌, ◌-◌, ◌≤◌, length}
+use Rattle.path.specs.Path.{join, normal}
+use Rattle.path.specs.Walk.{left}
+use Rattle.path.proofs.normal_len.Given as goal
+
+abbrev pub invariant-loop-at : goal.invariant-loop-at
+invariant-loop-at l = (l.at ≤ length l.s) × (length (normal l.s) ≡ l.out + length (join l.sep (left l.s l.at)))
+
+abbrev pub decreases-loop-at : goal.decreases-loop-at
+decreases-loop-at l = length l.s - l.at
