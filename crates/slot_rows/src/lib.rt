@@ -207,7 +207,7 @@ fn spells(q: &[u8], p: &[u8], key: u32) -> bool
 }
 
 // Whether row i is bound to a path equal to p, whose key is given.
-#[tactic(auto, using(crate::proofs::InBuffers::row_fits_lem, crate::proofs::InBuffers::name_part, crate::proofs::Fields::row_spells, crate::proofs::Finding::holds_unbound))]
+#[tactic(auto, using(crate::proofs::Fields::row_paths))]
 fn row_is(nums: &[u64], names: &[u8], cap: usize, n: usize, i: usize, p: &[u8], key: u32) -> bool
     requires { Flat cap n nums.now names.now × (i < n) × (key ≡ key_of p.now) }
     ensures { result ≡ holds p.now (at (rows_of nums.now names.now n) i) }
