@@ -257,3 +257,6 @@ stops_early_with ds p D = go (has_path ds (normal p)) refl
     go false h =
         until (ds ++ (normal p ∷ [])) (chain p) (ancestors_distinct p) (ancestor_normal p) (upward_more ds (own_other p) (upward ds (normal p ∷ ancestors p) D))
         ∙ rw (absent_other ds (ancestors p) (normal p) (own_other p), append_assoc)
+
+-- how many of a path and its ancestors are missing
+pub ruleset missing_paths = (missing_few, absent_held_path, absent_new_path)

@@ -13,6 +13,7 @@ ghost use Rattle.dir_rows.specs.Rows.{dir_at, dirs_of, FlatDirs};
 use limits::{DIR_WIDTH, MAX_PATH};
 
 // The length of what row j spells.
+#[tactic(auto, using(crate::proofs::InBuffer::dir_length))]
 pub fn dir_len(dirs: &[u8], j: usize) -> usize
     requires { j * dir_width + dir_width ≤ length dirs.now }
     ensures { result ≡ length (dir_at dirs.now j) }
@@ -25,23 +26,23 @@ pub fn dir_len(dirs: &[u8], j: usize) -> usize
 }
 
 // Whether p is the path of one of the first m rows.
+#[tactic(auto, using(crate::proofs::InBuffer::dir_short))]
 pub fn dir_find(dirs: &[u8], m: usize, p: &[u8]) -> bool
     requires { m * dir_width ≤ length dirs.now }
     ensures { result ≡ has_path (dirs_of dirs.now m) p.now }
 {
-    let mut j = 0;
-    while j < m {
+    for j in 0..m {
         let k = dir_len(dirs, j);
         let at = j * DIR_WIDTH + 2;
         if path::same_path(&dirs[at..at + k], p) {
             return true;
         }
-        j += 1;
     }
     false
 }
 
 // How many ancestors of p are in none of the first m rows.
+#[tactic(auto, using(path::proofs::Ancestors::up_falls))]
 pub fn missing(dirs: &[u8], m: usize, p: &[u8]) -> usize
     requires { m * dir_width ≤ length dirs.now }
     ensures { result ≡ length (absent (dirs_of dirs.now m) (ancestors p.now)) }
@@ -59,6 +60,7 @@ pub fn missing(dirs: &[u8], m: usize, p: &[u8]) -> usize
 }
 
 // How many of p and its ancestors are in none of the first m rows.
+#[tactic(auto, using(crate::proofs::Registering::missing_paths))]
 pub fn missing_path(dirs: &[u8], m: usize, p: &[u8]) -> usize
     requires { m * dir_width ≤ length dirs.now }
     ensures { result ≡ length (absent (dirs_of dirs.now m) (normal p.now ∷ ancestors p.now)) }
@@ -71,6 +73,7 @@ pub fn missing_path(dirs: &[u8], m: usize, p: &[u8]) -> usize
 }
 
 // Row m, the first free one, becomes the row of p. Its bytes behind the spelling are zero already.
+#[tactic(auto, using(crate::proofs::InBuffer::row_fits_lem))]
 pub fn put_dir(dirs: &mut [u8], cap: usize, m: usize, p: &[u8])
     requires { FlatDirs cap m dirs.old × (m < cap) × (length (normal p.now) ≤ max_path) }
     ensures rows { dirs_of dirs.new (m + 1) ≡ dirs_of dirs.old m ++ (normal p.now ∷ []) }
@@ -84,6 +87,7 @@ pub fn put_dir(dirs: &mut [u8], cap: usize, m: usize, p: &[u8])
 
 // Adds the ancestors of p that are in no row yet, nearest first, and gives the new count. The Rust stops at the first that it finds;
 // all are looked for here, which gives the same directories (specs/Laws.antt, `stops_early_same`) and needs nothing of the rows.
+#[tactic(auto, using(crate::proofs::InBuffer::dirs_long, path::proofs::Ancestors::up_falls))]
 pub fn register_ancestors(dirs: &mut [u8], cap: usize, m: usize, p: &[u8]) -> usize
     requires { FlatDirs cap m dirs.old
         × (length (registered (dirs_of dirs.old m) p.now) ≤ cap)
@@ -106,6 +110,7 @@ pub fn register_ancestors(dirs: &mut [u8], cap: usize, m: usize, p: &[u8]) -> us
 }
 
 // Adds p, and then its ancestors, where they are in no row yet, and gives the new count.
+#[tactic(auto, using(crate::proofs::InBuffer::dirs_long))]
 pub fn register_path(dirs: &mut [u8], cap: usize, m: usize, p: &[u8]) -> usize
     requires { FlatDirs cap m dirs.old
         × (length (registered_with (dirs_of dirs.old m) p.now) ≤ cap)

@@ -11,8 +11,8 @@ use Rattle.limits.specs.Limits.{max_path, row_width}
 use Rattle.path.specs.Path.{same_path}
 use Rattle.lists.specs.Blocks.{pad, sets_four}
 use Rattle.slot_rows.specs.Rows.{Row, file, unbound, bound, at, is_bound, path_of, gen_of, len_of, is_dirty, refiled, resized, holds, mark_of, row_nums, row_name, rows_of, Flat}
-use Rattle.slot_rows.proofs.InBuffers.{resized_path, num_at, name_part, row_kept, row_stored}
-use Rattle.slot_rows.proofs.Finding.{holds_path}
+use Rattle.slot_rows.proofs.InBuffers.{row_fits_lem, resized_path, num_at, name_part, row_kept, row_stored}
+use Rattle.slot_rows.proofs.Finding.{holds_path, holds_unbound}
 
 pub mark_bound : (r : Row) → not (eqb (get_or (row_nums r) 0 0) 0) ≡ is_bound r
 unfolding row_nums is_bound mark_of
@@ -85,3 +85,6 @@ module _ (cap n : ℕ) (l s : List ℕ) (F : Flat cap n l s) (i : ℕ) (h : i < 
       → (rows_of l₁ s₁ n ≡ set (rows_of l s n) i (unbound g)) × Flat cap n l₁ s₁
   unfolding row_nums row_name path_of pad
   unbound_stored l₁ s₁ g a b = row_stored cap n l s F i h (unbound g) l₁ s₁ (omega arith) a b
+
+-- what says whether a row holds a path
+pub ruleset row_paths = (row_fits_lem, name_part, row_spells, holds_unbound)

@@ -3,31 +3,21 @@ use mathlib.Core.Path.{sym, ◌∙◌, ap}
 use native.Mathlib.Omega.{arith}
 use Rattle.path.specs.Path.{same_path}
 use Rattle.dir_rows.specs.Rows.{dir_at}
-use Rattle.dir_rows.proofs.InBuffer.{dir_part, dir_short}
+use Rattle.dir_rows.proofs.InBuffer.{dir_part}
 use Rattle.dir_rows.proofs.Walks.{has_start, has_hit, has_on, has_end}
 use Rattle.dir_rows.proofs.dir_find.Goals as goal
 
 pub loop-j-init : goal.loop-j-init
 loop-j-init c =
     let a = c.args in
-    (omega arith, has_start a.dirs.now a.m a.p.now)
-
-pub overflow_add-at-in-loop-j : goal.overflow_add-at-in-loop-j
-overflow_add-at-in-loop-j c =
-    let a = c.args in
-    omega (arith, dir_short a.dirs.now c.loop-j.j)
-
-pub slice_bounds-same_path-end : goal.slice_bounds-same_path-end
-slice_bounds-same_path-end c =
-    let a = c.args in
-    omega (arith, dir_short a.dirs.now c.loop-j.j)
+    has_start a.dirs.now a.m a.p.now
 
 pub returns-then-same_path : goal.returns-then-same_path
 returns-then-same_path c =
     let l = c.loop-j in
     let a = c.args in
     sym
-    (l.invariant.1
+    (l.invariant
     ∙ has_hit (dir_at a.dirs.now) l.j a.m a.p.now (omega arith)
     (ap (λ (x : _). same_path x a.p.now) (sym (dir_part a.dirs.now l.j _ c.dir_len-k.ensures))
     ∙ sym c.same_path.ensures ∙ c.if-same_path.true))
@@ -35,14 +25,12 @@ returns-then-same_path c =
 pub loop-j-preserved : goal.loop-j-preserved
 loop-j-preserved c =
     let l = c.loop-j in
-    let a = c.args in (
-      omega arith,
-      l.invariant.1
-          ∙ has_on (dir_at a.dirs.now) l.j a.m a.p.now (omega arith)
-          (ap (λ (x : _). same_path x a.p.now) (sym (dir_part a.dirs.now l.j _ c.dir_len-k.ensures))
-          ∙ sym c.same_path.ensures ∙ c.if-same_path.false),
-    )
+    let a = c.args in
+    l.invariant
+    ∙ has_on (dir_at a.dirs.now) l.j a.m a.p.now (omega arith)
+    (ap (λ (x : _). same_path x a.p.now) (sym (dir_part a.dirs.now l.j _ c.dir_len-k.ensures))
+    ∙ sym c.same_path.ensures ∙ c.if-same_path.false)
 
 pub returns : goal.returns
 returns c =
-    sym (c.loop-j.invariant.1 ∙ has_end _ _ _ _ (omega arith))
+    sym (c.loop-j.invariant ∙ has_end _ _ _ _ (omega arith))

@@ -1,32 +1,12 @@
 -- `register_ancestors` meets its contract by the record `Going`: the rows so far and what is missing of the ancestors ahead are the whole.
 use mathlib.Core.Path.{sym, ◌∙◌}
 use native.Mathlib.Omega.{arith}
-use lib.Seq.{length-take-le}
-use Rattle.dir_rows.proofs.InBuffer.{dirs_long}
-use Rattle.path.proofs.Ancestors.{up_falls}
 use Rattle.dir_rows.proofs.Walks.{going_start, going_same, going_more, going_room, going_short, going_done}
 use Rattle.dir_rows.proofs.register_ancestors.Goals as goal
 
 pub loop-end-init : goal.loop-end-init
 loop-end-init c =
     going_start _ _ _ _ _ c.requires.0 c.above-end.ensures
-
-pub slice_bounds-above-end : goal.slice_bounds-above-end
-slice_bounds-above-end c =
-    sym (length-take-le _ _ c.loop-end.invariant.inside)
-
-pub slice_bounds-dir_find-end : goal.slice_bounds-dir_find-end
-slice_bounds-dir_find-end c =
-    sym (length-take-le _ _ c.loop-end.invariant.inside)
-
-pub dir_find-held-requires : goal.dir_find-held-requires
-dir_find-held-requires c =
-    let g = c.loop-end.invariant in
-    omega (arith, dirs_long _ _ _ g.flat, g.flat.few, g.onward)
-
-pub slice_bounds-put_dir-end : goal.slice_bounds-put_dir-end
-slice_bounds-put_dir-end c =
-    sym (length-take-le _ _ c.loop-end.invariant.inside)
 
 pub put_dir-requires : goal.put_dir-requires
 put_dir-requires c =
@@ -38,35 +18,15 @@ put_dir-requires c =
       going_short _ _ _ _ _ _ _ _ g c.loop-end-test.true c.above-up.ensures s.2,
     )
 
-pub overflow_add-n : goal.overflow_add-n
-overflow_add-n c =
-    let g = c.loop-end.invariant in
-    let s = c.requires in
-    let h = sym c.dir_find-held.ensures ∙ c.if-not-held.true in
-    omega (arith, going_room _ _ _ _ _ _ _ _ g c.loop-end-test.true c.above-up.ensures h s.1)
-
-pub loop-end-smaller-then-not-held : goal.loop-end-smaller-then-not-held
-loop-end-smaller-then-not-held c =
-    omega (arith, up_falls _ _ _ c.loop-end.invariant.inside c.loop-end-test.true c.above-up.ensures)
-
 pub loop-end-preserved-then-not-held : goal.loop-end-preserved-then-not-held
 loop-end-preserved-then-not-held c =
     let g = c.loop-end.invariant in
     let h = sym c.dir_find-held.ensures ∙ c.if-not-held.true in
     going_more _ _ _ _ _ _ _ _ g c.loop-end-test.true c.above-up.ensures h _ (c.put_dir.ensures.rows, c.put_dir.ensures.flat)
 
-pub loop-end-smaller : goal.loop-end-smaller
-loop-end-smaller c =
-    omega (arith, up_falls _ _ _ c.loop-end.invariant.inside c.loop-end-test.true c.above-up.ensures)
-
 pub loop-end-preserved : goal.loop-end-preserved
 loop-end-preserved c =
     going_same _ _ _ _ _ _ _ _ c.loop-end.invariant c.loop-end-test.true c.above-up.ensures (sym c.dir_find-held.ensures ∙ c.if-not-held.false)
-
-pub shape_of-dirs : goal.shape_of-dirs
-shape_of-dirs c =
-    let g = c.loop-end.invariant in
-    dirs_long _ _ _ g.flat ∙ sym (dirs_long _ _ _ c.requires.0)
 
 pub returns : goal.returns
 returns c =

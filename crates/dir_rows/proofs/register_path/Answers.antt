@@ -1,14 +1,7 @@
 -- `register_path` meets its contract by `held_done` and `next_done`: the path is there, or is the first row more.
 use mathlib.Core.Path.{sym, ◌∙◌}
-use native.Mathlib.Omega.{arith}
-use Rattle.dir_rows.proofs.InBuffer.{dirs_long}
 use Rattle.dir_rows.proofs.Firsts.{held_room, held_done, new_room, next_room, next_done}
 use Rattle.dir_rows.proofs.register_path.Goals as goal
-
-pub dir_find-requires : goal.dir_find-requires
-dir_find-requires c =
-    let F = c.requires.0 in
-    omega (arith, dirs_long _ _ _ F, F.few)
 
 pub register_ancestors-requires : goal.register_ancestors-requires
 register_ancestors-requires c =
