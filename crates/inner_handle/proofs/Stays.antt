@@ -1,23 +1,23 @@
 -- What a live handle is, what the calls on a handle leave of a pool with its device, and what of a call's outcome follows at once.
-use Prim.Native.Nat.{ℕ, ◌+◌, ◌-◌, ◌≤◌, ◌<◌, min, max}
+use Prim.Native.Nat.{ℕ, ◌<◌}
 use native.Mathlib.Omega.{arith}
-use mathlib.Core.Path.{◌≡◌, refl, sym, ap, ◌∙◌}
+use mathlib.Core.Path.{◌≡◌, refl, ap}
 use mathlib.Core.Bool.{Bool, true, false, cond, false≢true}
 use mathlib.Core.List.{List}
 use lib.Dec.{eqb, ltb, leb}
-use lib.ListN.{length, set, length-set}
+use lib.ListN.{length, length-set}
 use borrow.Author.Tests.{ltb-true, eqb-true}
 use Rattle.device.specs.declared.Geometry.{Geometry}
-use Rattle.device.specs.Device.{Dev, dev, seen, flush_m, read_m, data_read_m, data_write_m, data_truncate_m}
+use Rattle.device.specs.Device.{Dev, flush_m, read_m, data_read_m}
 use Rattle.device.specs.AnyDevice.{flush, truncate, store, load}
 use Rattle.slot_rows.specs.Rows.{Row, at, is_bound, gen_of, len_of, is_dirty, resized}
-use Rattle.pool_state.specs.State.{State, Valid, IsPool}
+use Rattle.pool_state.specs.State.{IsPool}
 use Rattle.pool_state.specs.Changes.{with_row, with_row_valid, resized_admitted}
-use Rattle.pool_steps.specs.World.{World, world, Lent, view_w, flat_w, Fit}
+use Rattle.pool_steps.specs.World.{World, world, Lent, view_w, Fit}
 use Rattle.pool_steps.specs.Steps.{fine_m, sync_row_m}
 use Rattle.pool_steps.proofs.Stays.{Kept, call_kept, sync_row_fit, lent_stays}
-use Rattle.pool_steps.specs.Outcome.{Outcome, outcome, flat_o, None, by_device}
-use Rattle.inner_handle.specs.Handles.{is_live, on_handle, Filling, filling, read_part, read_at_m, resized_m, write_at_m, set_len_m, sync_m}
+use Rattle.pool_steps.specs.Outcome.{Outcome, outcome, flat_o}
+use Rattle.inner_handle.specs.Handles.{is_live, on_handle, filling, read_part, read_at_m, resized_m, write_at_m, set_len_m, sync_m}
 
 -- A refusal, and any call that changes nothing: the buffers stay.
 pub stays : {R : Type 0} (n : ℕ) (r : R) (l : Lent) → IsPool l.bufs → outcome n r l ≡ flat_o (outcome n r (view_w l))

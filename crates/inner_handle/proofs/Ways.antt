@@ -6,13 +6,13 @@ use mathlib.Core.Bool.{Bool, true, false, cond}
 use mathlib.Core.List.{List, ◌++◌}
 use lib.Dec.{eqb, ltb, leb}
 use lib.ListN.{length, set, take, drop}
-use borrow.Author.Tests.{eq-eqb, ne_eqb, lt-ltb, le-ltb, le-leb, lt-leb, ltb-false}
+use borrow.Author.Tests.{eq-eqb, ne_eqb, le-leb, lt-leb, ltb-false}
 use Rattle.device.specs.declared.Place.{Place}
 use Rattle.device.specs.declared.Geometry.{Geometry}
 use Rattle.device.specs.declared.Got.{Got}
 use Rattle.device.specs.Device.{Dev, dev, Shape, Read, read, turn, onward, share, short, stores, flushed, flush_m, write_m, data_read_m, data_write_m, data_truncate_m}
 use Rattle.device.specs.Device as Device
-use Rattle.slot_rows.specs.Rows.{Row, at, is_bound, gen_of, len_of, is_dirty, resized, rows_of, Flat}
+use Rattle.slot_rows.specs.Rows.{Row, at, is_bound, len_of, is_dirty, resized, rows_of, Flat}
 use Rattle.slot_rows.proofs.InBuffers.{length_rows}
 use Rattle.pool_state.specs.State.{Bufs, bufs, view, IsPool}
 use Rattle.pool_state.specs.Changes.{row_flat}
@@ -23,19 +23,6 @@ use Rattle.inner_handle.specs.Handles.{is_live, on_handle, file_len_m, filling, 
 use Rattle.inner_handle.proofs.Stays.{live_means, stays}
 
 -- ---- a live handle
-
-module _ (slot generation n : ℕ) (rs : List Row) (k : length rs ≡ n) where
-  pub live_outside : n ≤ slot → false ≡ is_live slot generation rs
-  unfolding is_live
-  live_outside h = let z : ltb slot (length rs) ≡ false = le-ltb slot (length rs) (omega arith) in rw z
-
-  pub live_bound : slot < n → is_bound (at rs slot) ≡ true → eqb (gen_of (at rs slot)) generation ≡ is_live slot generation rs
-  unfolding is_live
-  live_bound h b = let z : ltb slot (length rs) ≡ true = lt-ltb slot (length rs) (omega arith) in rw (z, b)
-
-  pub live_unbound : slot < n → is_bound (at rs slot) ≡ false → false ≡ is_live slot generation rs
-  unfolding is_live
-  live_unbound h b = let z : ltb slot (length rs) ≡ true = lt-ltb slot (length rs) (omega arith) in rw (z, b)
 
 -- the rows of the buffers
 abbrev pub rows_in : Bufs → List Row

@@ -3,7 +3,7 @@
 // it failed, 11 where a write stored too little. The caller has seen that the buffers are a pool on its device.
 #![tactic(auto)]
 
-ghost use Rattle.std.specs.Prelude.{◌≡◌, ◌-◌, ◌<◌, min, max};
+ghost use Rattle.std.specs.Prelude.{◌≡◌};
 ghost use Rattle.device.specs.Device.{dev};
 ghost use Rattle.slot_rows.specs.Rows.{rows_of, Flat};
 ghost use Rattle.pool_state.specs.State.{bufs, bufs_before, view, IsPool};
@@ -37,6 +37,7 @@ pub struct Filled {
 }
 
 // Whether the slot is held and bound, under this generation.
+#[tactic(auto, using(slot_rows::proofs::InBuffers::length_rows), unfolding(crate::specs::Handles::is_live))]
 pub fn live(nums: &[u64], names: &[u8], cap: usize, n: usize, slot: usize, generation: u64) -> bool
     requires { Flat cap n nums.now names.now }
     ensures { result ≡ is_live slot generation (rows_of nums.now names.now n) }
@@ -71,15 +72,6 @@ pub fn file_len(
         };
     }
     Len { out: 6, len: 0 }
-}
-
-// How many bytes a read from `at` on asks for: as many as the buffer takes, and as the file has.
-fn wanted(room: usize, len: u64, at: u64) -> usize
-    requires { at < len }
-    ensures { result ≡ min room (len - at) }
-{
-    let rest = (len - at) as usize;
-    if room <= rest { room } else { rest }
 }
 
 // Reads from file offset `at` on into the buffer, which stays behind the bytes that were read. At or past the file's length there is
@@ -121,7 +113,7 @@ pub fn read_at(
             place: place,
         };
     }
-    let want = wanted(buf.len(), len, at);
+    let want = buf.len().min((len - at) as usize);
     let got = device::data_read(
         bytes,
         phys,
@@ -138,12 +130,6 @@ pub fn read_at(
         count: got.count,
         place: after,
     }
-}
-
-fn greater(a: u64, b: u64) -> u64
-    ensures { result ≡ max a b }
-{
-    if a <= b { b } else { a }
 }
 
 // Writes src from file offset `at` on. The file then reaches at least to the end of it. The Rust looks at the handle again once the bytes
@@ -186,8 +172,7 @@ pub fn write_at(
         };
     }
     let end = at + src.len() as u64;
-    let reach = greater(len, end);
-    slot_rows::set_row_len(nums, names, cap, n, slot, reach, true);
+    slot_rows::set_row_len(nums, names, cap, n, slot, len.max(end), true);
     Ended { out: 0, place: put }
 }
 

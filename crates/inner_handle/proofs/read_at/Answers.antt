@@ -1,8 +1,6 @@
 -- One law for each way out: `stale`, then `goes` with `read_none` and `read_some`.
 use mathlib.Core.Path.{sym, ◌∙◌}
-use lib.Seq.{length-take-le}
 use Rattle.pool_state.specs.InBuffers.{pool_rows}
-use native.Mathlib.Omega.{arith}
 use Rattle.inner_handle.specs.Handles.{read_at_m}
 use Rattle.inner_handle.proofs.Ways.{live_row, live_device, stale, goes, read_none, read_some}
 use Rattle.inner_handle.proofs.read_at.Goals as goal
@@ -30,15 +28,9 @@ returns-then-len-at c =
     goes _ _ _ _ _ _ (sym c.live.ensures ∙ c.if-not-live.false)
     (read_none _ _ _ _ _ _ c.requires.pool _ c.row_len-len.ensures c.if-len-at.true)
 
-pub slice_bounds-data_read-end-2 : goal.slice_bounds-data_read-end-2
-slice_bounds-data_read-end-2 c =
-    sym (length-take-le _ _ (omega (arith, c.wanted-want.ensures)))
-
-pub data_read-got-requires : goal.data_read-got-requires
-data_read-got-requires c =
-    let all = live_device _ _ c.requires _ _
-    (sym c.live.ensures ∙ c.if-not-live.false) in
-    record { shape = all.0; slot_in_bounds = all.1 }
+pub data_read-got-requires-clause-slot_in_bounds : goal.data_read-got-requires-clause-slot_in_bounds
+data_read-got-requires-clause-slot_in_bounds c =
+    (live_device _ _ c.requires _ _ (sym c.live.ensures ∙ c.if-not-live.false)).1
 
 pub returns : goal.returns
 unfolding read_at_m
@@ -46,4 +38,4 @@ returns c =
     goes _ _ _ _ _ _ (sym c.live.ensures ∙ c.if-not-live.false)
     (read_some _ _ _ _ _ _ c.requires.pool _ c.row_len-len.ensures
     c.if-len-at.false _
-    c.wanted-want.ensures _ _ c.data_read-got.ensures)
+    c.min-want.ensures _ _ c.data_read-got.ensures)

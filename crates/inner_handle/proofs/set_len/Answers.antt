@@ -15,11 +15,9 @@ returns-then-not-live c =
     stale _ _ _ _ _ c.requires.pool
     (sym c.live.ensures ∙ c.if-not-live.true)
 
-pub data_truncate-cut-requires : goal.data_truncate-cut-requires
-data_truncate-cut-requires c =
-    let all = live_device _ _ c.requires _ _
-    (sym c.live.ensures ∙ c.if-not-live.false) in
-    record { shape = all.0; slot_in_bounds = all.1 }
+pub data_truncate-cut-requires-clause-slot_in_bounds : goal.data_truncate-cut-requires-clause-slot_in_bounds
+data_truncate-cut-requires-clause-slot_in_bounds c =
+    (live_device _ _ c.requires _ _ (sym c.live.ensures ∙ c.if-not-live.false)).1
 
 pub returns-then-last-ne0 : goal.returns-then-last-ne0
 returns-then-last-ne0 c =

@@ -22,10 +22,6 @@ is_dirty-requires c = (
       (sym c.live.ensures ∙ c.if-not-live.false)).0,
 )
 
-pub sync_row-put-requires-clause-ready : goal.sync_row-put-requires-clause-ready
-sync_row-put-requires-clause-ready c =
-    c.requires
-
 pub sync_row-put-requires-clause-i_lt_held : goal.sync_row-put-requires-clause-i_lt_held
 sync_row-put-requires-clause-i_lt_held c =
     live_row _ _ _ _ _ (sym c.live.ensures ∙ c.if-not-live.false)

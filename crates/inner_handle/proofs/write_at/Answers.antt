@@ -24,11 +24,9 @@ row_len-len-requires c = (
   (live_row _ _ _ _ _ (sym c.live.ensures ∙ c.if-not-live.false)).0,
 )
 
-pub data_write-put-requires : goal.data_write-put-requires
-data_write-put-requires c =
-    let all = live_device _ _ c.requires _ _
-    (sym c.live.ensures ∙ c.if-not-live.false) in
-    record { shape = all.0; slot_in_bounds = all.1 }
+pub data_write-put-requires-clause-slot_in_bounds : goal.data_write-put-requires-clause-slot_in_bounds
+data_write-put-requires-clause-slot_in_bounds c =
+    (live_device _ _ c.requires _ _ (sym c.live.ensures ∙ c.if-not-live.false)).1
 
 pub returns-then-last-ne0 : goal.returns-then-last-ne0
 returns-then-last-ne0 c =
@@ -55,6 +53,6 @@ pub returns : goal.returns
 returns c =
     let e = sym c.live.ensures ∙ c.if-not-live.false in
     write_at_is _ _ _ _ _ e _ _ _ _ _ c.row_len-len.ensures
-    c.greater-reach.ensures
+    c.max.ensures
     (resize_done _ _ c.requires _ _ _ _ c.data_write-put.ensures.same c.if-last-ne0.false
     _ c.set_row_len.ensures.rows c.set_row_len.ensures.flat)
