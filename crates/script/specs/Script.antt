@@ -62,8 +62,8 @@ ran_m s u d h i = run_m s (run_in s u.plan) (geometry_of u) (operations (length 
 unfoldable pub behind_setup : List ℕ → Setup → Patching → List ℕ
 behind_setup s u p =
     elim (p.behind) [
-      None ↦ []
-    | Some i ↦ whole (ran_m s u p.bytes (tab (length_at s u.phys) 0 u.slots) i)
+      | None ↦ []
+      | Some i ↦ whole (ran_m s u p.bytes (tab (length_at s u.phys) 0 u.slots) i)
     ]
 
 -- The whole output: none "if the setup isn't whole .. or passes the script's own limits".

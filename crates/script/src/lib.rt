@@ -178,7 +178,8 @@ fn on_device(script: &[u8], setup: Setup, out: &mut [u8]) -> usize
     let slots = setup.slots;
     let n = slots * setup.size;
     let mut bytes = no_bytes();
-    let Some(from) = script_format::patch(script, setup.patches, setup.count, &mut bytes[..n]) else {
+    let Some(from) = script_format::patch(script, setup.patches, setup.count, &mut bytes[..n])
+    else {
         return 0;
     };
     let mut phys = no_lengths();

@@ -1,10 +1,9 @@
 -- One law for each way out: `device_none`, `device_run`; the device's bytes and lengths are fronts of lent buffers.
-use mathlib.Core.Path.{refl, ◌∙◌, ◌≡◌, ap, sym, subst, ap₂}
-use mathlib.Core.List.{List, ◌++◌}
-use Prim.Native.Nat.{ℕ, ◌*◌, ◌≤◌, ◌+◌}
-use lib.ListN.{length, take, drop}
-use lib.Seq.{length-take-le, length_front}
-use Rattle.limits.specs.Limits.{row_width}
+use mathlib.Core.Path.{refl, ◌∙◌, ◌≡◌, ap, ap₂}
+use mathlib.Core.List.{List}
+use Prim.Native.Nat.{ℕ, ◌*◌}
+use lib.ListN.{length, take}
+use lib.Seq.{length-take-le}
 use Rattle.output.specs.Writer.{shown, pours}
 use Rattle.script_step.proofs.Ways.{fresh_front, fresh_length}
 use Rattle.script.specs.Script.{whole, ran_m}
