@@ -1,5 +1,5 @@
 -- A script, run over a small pool of its own: docs/EXPORTS.md, "pool_script". What it puts out is one list, and nothing where its setup isn't whole.
-use Rattle.std.specs.Prelude.{ℕ, ◌*◌, cond, List, [], ◌∷◌, ◌++◌, length, replicate}
+use Rattle.std.specs.Prelude.{ℕ, ◌*◌, List, [], ◌∷◌, ◌++◌, Some, None, length, replicate}
 use Rattle.limits.specs.Limits.{max_path, row_width, dir_width}
 use Rattle.lists.specs.Runs.{tab}
 use Rattle.device.specs.declared.Geometry.{Geometry}
@@ -60,8 +60,12 @@ ran_m s u d h i = run_m s (run_in s u.plan) (geometry_of u) (operations (length 
 
 -- "setup, then operations to the end": these start behind the patches, if all of them are whole and inside of the device.
 unfoldable pub behind_setup : List ℕ → Setup → Patching → List ℕ
-behind_setup s u p = cond p.run.whole (whole (ran_m s u p.bytes (tab (length_at s u.phys) 0 u.slots) p.run.to)) []
+behind_setup s u p =
+    elim (p.behind) [
+      | None ↦ []
+      | Some i ↦ whole (ran_m s u p.bytes (tab (length_at s u.phys) 0 u.slots) i)
+    ]
 
 -- The whole output: none "if the setup isn't whole .. or passes the script's own limits".
 unfoldable pub script_m : List ℕ → List ℕ
-script_m s = cond (setup_at s).whole (behind_setup s (setup_at s) (patched_device s (setup_at s))) []
+script_m s = elim (setup_at s) [ None ↦ [] | Some u ↦ behind_setup s u (patched_device s u) ]

@@ -45,21 +45,16 @@ fn run(
         at: 0,
     };
     let mut pos = from;
-    loop {
-        let op = script_format::op_at(script, pos);
-        let code = op.code;
-        if code == 0 {
-            return ran;
-        }
+    while let Some(op) = script_format::op_at(script, pos) {
         let p = ran.place;
         let q = ran.pool;
         let at = ran.at;
         ran = script_step::step(
             bytes, phys, geometry, plan, p, nums, names, dirs, q, script, op, out, at,
         );
-        let second = op.second;
-        pos = second.to;
+        pos = op.second.to;
     }
+    ran
 }
 
 // The operations, and then the tables.
@@ -183,10 +178,10 @@ fn on_device(script: &[u8], setup: Setup, out: &mut [u8]) -> usize
     let slots = setup.slots;
     let n = slots * setup.size;
     let mut bytes = no_bytes();
-    let run = script_format::patch(script, setup.patches, setup.count, &mut bytes[..n]);
-    if !run.whole {
+    let Some(from) = script_format::patch(script, setup.patches, setup.count, &mut bytes[..n])
+    else {
         return 0;
-    }
+    };
     let mut phys = no_lengths();
     script_format::lengths(script, setup.phys, &mut phys[..slots]);
     on_rows(
@@ -194,7 +189,7 @@ fn on_device(script: &[u8], setup: Setup, out: &mut [u8]) -> usize
         &mut phys[..slots],
         script,
         setup,
-        run.to,
+        from,
         out,
     )
 }
@@ -204,9 +199,8 @@ fn on_device(script: &[u8], setup: Setup, out: &mut [u8]) -> usize
 pub fn pool_script(script: &[u8], out: &mut [u8]) -> usize
     ensures { shown out.new result ≡ poured (script_m script.now) out.old }
 {
-    let setup = script_format::setup_at(script);
-    if !setup.whole {
+    let Some(setup) = script_format::setup_at(script) else {
         return 0;
-    }
+    };
     on_device(script, setup, out)
 }

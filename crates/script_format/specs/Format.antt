@@ -1,5 +1,6 @@
 -- The format of a script, in the order of docs/EXPORTS.md: "All numbers are unsigned and little-endian." A place is an index of the script s.
-use Rattle.std.specs.Prelude.{ℕ, zero, suc, ◌+◌, ◌-◌, ◌*◌, ◌^◌, Bool, true, false, cond, not, ◌&&◌, List, [], ◌∷◌, eqb, leb, ltb, length, get_or, take, drop}
+use Rattle.std.specs.Prelude.{ℕ, zero, suc, ◌+◌, ◌-◌, ◌*◌, ◌^◌, Bool, cond, not, ◌&&◌, List, [], ◌∷◌, Option, Some, None, eqb, leb, ltb, length, get_or, take, drop}
+use Rattle.std.specs.Option.{option_map, option_and_then}
 use Rattle.std.proofs.lemmas.List.Edits.{sets}
 use Rattle.le.specs.Le.{field}
 use Rattle.script_format.specs.declared.Span.{Span}
@@ -9,23 +10,19 @@ use Rattle.script_format.specs.declared.Setup.{Setup}
 
 -- ---- runs
 
-abbrev pub span : ℕ → ℕ → Bool → Span
-span a e w = record { from = a; to = e; whole = w }
+abbrev pub span : ℕ → ℕ → Span
+span a e = record { from = a; to = e }
 
--- A run that is cut off.
-abbrev pub no_span : Span
-no_span = span 0 0 false
-
--- "A run is a u16 length and that many bytes."
-unfoldable pub span_at : List ℕ → ℕ → Span
+-- "A run is a u16 length and that many bytes." None where it is cut off.
+unfoldable pub span_at : List ℕ → ℕ → Option Span
 span_at s i =
     cond (leb (i + 2) (length s))
-    (cond (leb (i + 2 + field s i 2) (length s)) (span (i + 2) (i + 2 + field s i 2) true) no_span)
-    no_span
+    (cond (leb (i + 2 + field s i 2) (length s)) (Some (span (i + 2) (i + 2 + field s i 2))) None)
+    None
 
 -- A run that an operation may have: where it has none, it is empty.
-unfoldable pub span_if : Bool → List ℕ → ℕ → Span
-span_if wanted s i = cond wanted (span_at s i) (span i i true)
+unfoldable pub span_if : Bool → List ℕ → ℕ → Option Span
+span_if wanted s i = cond wanted (span_at s i) (Some (span i i))
 
 -- The bytes of a run.
 abbrev pub run_in : List ℕ → Span → List ℕ
@@ -102,19 +99,14 @@ form_of code = get_or forms code no_form
 unfoldable pub is_code : ℕ → Bool
 is_code code = not (eqb (form_of code).used 0)
 
--- No operation.
-abbrev pub no_op : Op
-no_op = record { code = 0; slot = 0; flag = 0; len = 0; generation = 0; at = 0; n = 0; first = no_span; second = no_span }
-
 -- Where the generation stands, behind slot, flag and length.
 abbrev pub generation_at : ℕ → Form → ℕ
 generation_at i f = i + f.slot + f.flag + f.len
 
--- The operation whose numbers are read, and whose runs are these: none where one is cut off.
+-- The operation whose numbers are read, and whose runs are these.
 unfoldable pub op_of : List ℕ → ℕ → ℕ → Form → Span → Span → Op
 op_of s i code f a b =
-    cond (a.whole && b.whole)
-    (record {
+    record {
       code = code;
       slot = field s i f.slot;
       flag = field s (i + f.slot) f.flag;
@@ -124,50 +116,47 @@ op_of s i code f a b =
       n = field s (generation_at i f + f.generation + f.at) f.n;
       first = a;
       second = b;
-    })
-    no_op
+    }
 
 -- Where the runs start.
 abbrev pub runs_at : ℕ → Form → ℕ
 runs_at i f = generation_at i f + f.generation + f.at + f.n
 
--- The operation of this code, whose arguments are at i.
-unfoldable pub args_of : List ℕ → ℕ → ℕ → Op
+-- With its first run: none where the second is cut off.
+abbrev pub behind_first : List ℕ → ℕ → ℕ → Form → Span → Option Op
+behind_first s i code f a = option_map (op_of s i code f a) (span_if (leb 2 f.runs) s a.to)
+
+-- The operation of this code, whose arguments are at i: none where one of its runs is cut off.
+unfoldable pub args_of : List ℕ → ℕ → ℕ → Option Op
 args_of s i code =
     cond (leb (runs_at i (form_of code)) (length s))
-    (op_of s i code (form_of code)
-    (span_if (leb 1 (form_of code).runs) s (runs_at i (form_of code)))
-    (span_if (leb 2 (form_of code).runs) s (span_if (leb 1 (form_of code).runs) s (runs_at i (form_of code))).to))
-    no_op
+    (option_and_then (behind_first s i code (form_of code))
+    (span_if (leb 1 (form_of code).runs) s (runs_at i (form_of code))))
+    None
 
 -- The operation at i: none where it "is cut off or has no code of the table".
-unfoldable pub op_at : List ℕ → ℕ → Op
+unfoldable pub op_at : List ℕ → ℕ → Option Op
 op_at s i =
-    cond (leb (length s) i) no_op
-    (cond (is_code (get_or s i 0)) (args_of s (i + 1) (get_or s i 0)) no_op)
+    cond (leb (length s) i) None
+    (cond (is_code (get_or s i 0)) (args_of s (i + 1) (get_or s i 0)) None)
 
 -- "operations to the end": those from i on, at most k of them. "The script ends before the first operation that is cut off or has no code".
 unfoldable pub operations : ℕ → List ℕ → ℕ → List Op
 operations zero s i = []
-operations (suc k) s i = cond (eqb (op_at s i).code 0) [] (op_at s i ∷ operations k s (op_at s i).second.to)
+operations (suc k) s i = elim (op_at s i) [ None ↦ [] | Some o ↦ o ∷ operations k s o.second.to ]
 
 -- ---- the setup
-
--- A setup that is cut off, or passes the limits.
-abbrev pub no_setup : Setup
-no_setup = record { whole = false; slots = 0; rows = 0; dir_rows = 0; size = 0; plan = no_span; phys = 0; count = 0; patches = 0 }
 
 -- "the script's own limits: 64 device slots, 65,536 device bytes in all, 66 slot rows, 258 directory rows"
 unfoldable pub limits_ok : ℕ → ℕ → ℕ → ℕ → Bool
 limits_ok slots rows dir_rows size = leb slots 64 && (leb rows 66 && (leb dir_rows 258 && leb (slots * size) 65536))
 
--- The setup with these counts and this plan: "D x u32 physical lengths", "u16 count of patches".
-unfoldable pub behind_plan : List ℕ → ℕ → ℕ → ℕ → ℕ → Span → Setup
-behind_plan s slots rows dir_rows size plan =
-    cond plan.whole
-    (cond (leb (plan.to + slots * 4 + 2) (length s))
-    (record {
-      whole = true;
+-- The setup with these counts and this plan: "D x u32 physical lengths", "u16 count of patches". None where it is cut off.
+unfoldable pub behind_plan : List ℕ → ℕ → ℕ → ℕ → ℕ → Option Span → Option Setup
+behind_plan s slots rows dir_rows size None = None
+behind_plan s slots rows dir_rows size (Some plan) =
+    cond (leb (plan.to + slots * 4 + 2) (length s))
+    (Some (record {
       slots = slots;
       rows = rows;
       dir_rows = dir_rows;
@@ -176,20 +165,20 @@ behind_plan s slots rows dir_rows size plan =
       phys = plan.to;
       count = field s (plan.to + slots * 4) 2;
       patches = plan.to + slots * 4 + 2;
-    })
-    no_setup)
-    no_setup
+    }))
+    None
 
--- "u8 1, u8 D, u8 slot rows, u16 directory rows, u32 slot size, run the plan ..". A script of 2^40 bytes passes the limits, too.
-unfoldable pub setup_at : List ℕ → Setup
+-- "u8 1, u8 D, u8 slot rows, u16 directory rows, u32 slot size, run the plan ..". A script of 2^40 bytes passes the limits, too. None where
+-- it is cut off, or passes the limits.
+unfoldable pub setup_at : List ℕ → Option Setup
 setup_at s =
-    cond (leb (2 ^ 40) (length s)) no_setup
-    (cond (ltb (length s) 9) no_setup
+    cond (leb (2 ^ 40) (length s)) None
+    (cond (ltb (length s) 9) None
     (cond (eqb (get_or s 0 0) 1)
     (cond (limits_ok (get_or s 1 0) (get_or s 2 0) (field s 3 2) (field s 5 4))
     (behind_plan s (get_or s 1 0) (get_or s 2 0) (field s 3 2) (field s 5 4) (span_at s 9))
-    no_setup)
-    no_setup))
+    None)
+    None))
 
 -- Physical length k of those at i.
 unfoldable pub length_at : List ℕ → ℕ → ℕ → ℕ
@@ -197,26 +186,27 @@ length_at s i k = field s (i + k * 4) 4
 
 -- ---- patches: "each: u32 place in the whole device, run of bytes"
 
--- The bytes of a patch, and the device with it.
+-- The place behind a patch, and the device with it: no place where it isn't laid.
 pub record Patching : Type 0 where
-  pub run : Span
+  pub behind : Option ℕ
   pub bytes : List ℕ
 
-abbrev pub patching : Span → List ℕ → Patching
-patching r d = record { run = r; bytes = d }
+abbrev pub patching : Option ℕ → List ℕ → Patching
+patching r d = record { behind = r; bytes = d }
 
 -- The run r, laid over the device d from `place` on: not where "a patch [is] outside of the device".
-unfoldable pub placed : List ℕ → ℕ → Span → List ℕ → Patching
-placed s place r d =
-    cond (r.whole && leb (place + (r.to - r.from)) (length d)) (patching r (sets d place (run_in s r))) (patching no_span d)
+abbrev pub placed : List ℕ → ℕ → Option Span → List ℕ → Patching
+placed s place None d = patching None d
+placed s place (Some r) d = cond (leb (place + (r.to - r.from)) (length d)) (patching (Some r.to) (sets d place (run_in s r))) (patching None d)
 
 unfoldable pub patch_at : List ℕ → ℕ → List ℕ → Patching
-patch_at s i d = cond (leb (i + 4) (length s)) (placed s (field s i 4) (span_at s (i + 4)) d) (patching no_span d)
+patch_at s i d = cond (leb (i + 4) (length s)) (placed s (field s i 4) (span_at s (i + 4)) d) (patching None d)
 
 -- The patches from i on, in order, and the place behind them: not where one of them is cut off or outside.
 unfoldable pub patched_m : List ℕ → ℕ → ℕ → List ℕ → Patching
-patched_m s zero i d = patching (span i i true) d
+patched_m s zero i d = patching (Some i) d
 patched_m s (suc k) i d =
-    cond (patch_at s i d).run.whole
-    (patched_m s k (patch_at s i d).run.to (patch_at s i d).bytes)
-    (patching no_span (patch_at s i d).bytes)
+    elim ((patch_at s i d).behind) [
+      | None ↦ patching None (patch_at s i d).bytes
+      | Some j ↦ patched_m s k j (patch_at s i d).bytes
+    ]

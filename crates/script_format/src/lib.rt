@@ -1,11 +1,11 @@
 // A script, read (docs/EXPORTS.md): a setup, and then operations to the end. What is cut off, has no code of the table, or passes the
-// script's limits is said so, and nothing of it is used. A place is an index of the script.
+// script's limits is none, and nothing of it is used. A place is an index of the script.
 #![tactic(auto)]
 
 ghost use Rattle.std.specs.Prelude.{◌≡◌, ◌+◌, ◌*◌, ◌≤◌, ◌<◌, length};
 ghost use Rattle.lists.specs.Runs.{tab};
-ghost use Rattle.script_format.specs.Format.{no_span, span_at, span_if, last_code, form_of, no_op, args_of, op_at};
-ghost use Rattle.script_format.specs.Format.{limits_ok, no_setup, behind_plan, setup_at, length_at, patching, patch_at, patched_m};
+ghost use Rattle.script_format.specs.Format.{span_at, span_if, last_code, form_of, args_of, op_at};
+ghost use Rattle.script_format.specs.Format.{limits_ok, behind_plan, setup_at, length_at, patching, patch_at, patched_m};
 
 // The longest script, in bytes: one less than this. So the output's length fits 64 bits.
 const LONGEST: usize = 0x100_0000_0000;
@@ -16,12 +16,11 @@ const LAST_CODE: usize = 26;
 // How many rows the table has, with those that are no operation's.
 const CODES: usize = LAST_CODE + 1;
 
-// A run of bytes: where they start and end. If it is cut off, `whole` is false and the rest zero.
+// A run of bytes: where they start and end.
 #[derive(Clone, Copy)]
 pub struct Span {
     pub from: usize,
     pub to: usize,
-    pub whole: bool,
 }
 
 // How an operation is written: whether it is one, the widths of its numbers, how many runs come behind them, and the widths of what it
@@ -43,8 +42,7 @@ pub struct Form {
     pub gives_yes: usize,
 }
 
-// An operation: its code, its arguments, those it does not have zero or empty. Code 0 stands for none. The next operation is at
-// `second.to`.
+// An operation: its code, its arguments, those it does not have zero or empty. The next operation is at `second.to`.
 #[derive(Clone, Copy)]
 pub struct Op {
     pub code: usize,
@@ -61,7 +59,6 @@ pub struct Op {
 // What stands in a setup: the counts, the plan, and the places of the physical lengths and of the patches.
 #[derive(Clone, Copy)]
 pub struct Setup {
-    pub whole: bool,
     pub slots: usize,
     pub rows: usize,
     pub dir_rows: usize,
@@ -74,49 +71,37 @@ pub struct Setup {
 
 // ---- runs
 
-fn no_span() -> Span
-    ensures { result ≡ no_span }
-{
-    Span {
-        from: 0,
-        to: 0,
-        whole: false,
-    }
-}
-
 // The run at i: a u16 length and that many bytes.
-pub fn run_at(s: &[u8], i: usize) -> Span
+#[tactic(auto, unfolding(crate::specs::Format::span_at))]
+pub fn run_at(s: &[u8], i: usize) -> Option<Span>
     requires { i ≤ length s.now }
     ensures { result ≡ span_at s.now i }
 {
     let n = s.len();
     let from = i + 2;
     if n < from {
-        return no_span();
+        return None;
     }
     let k = le::get_at(s, i, 2) as usize;
     if n - from < k {
-        return no_span();
+        return None;
     }
-    Span {
+    Some(Span {
         from: from,
         to: from + k,
-        whole: true,
-    }
+    })
 }
 
 // The run at i where one is to come, else an empty one.
-fn run_if(s: &[u8], i: usize, wanted: bool) -> Span
+#[tactic(auto, unfolding(crate::specs::Format::span_if))]
+fn run_if(s: &[u8], i: usize, wanted: bool) -> Option<Span>
     requires { i ≤ length s.now }
     ensures { result ≡ span_if wanted s.now i }
 {
     if wanted {
-        return run_at(s, i);
-    }
-    Span {
-        from: i,
-        to: i,
-        whole: true,
+        run_at(s, i)
+    } else {
+        Some(Span { from: i, to: i })
     }
 }
 
@@ -174,43 +159,29 @@ pub fn form_of(code: usize) -> Form
     }
 }
 
-fn no_op() -> Op
-    ensures { result ≡ no_op }
-{
-    Op {
-        code: 0,
-        slot: 0,
-        flag: 0,
-        len: 0,
-        generation: 0,
-        at: 0,
-        n: 0,
-        first: no_span(),
-        second: no_span(),
-    }
-}
-
 // The operation at i, or none: at the script's end, of no code of the table, or cut off.
-pub fn op_at(s: &[u8], i: usize) -> Op
+#[tactic(auto, using(crate::specs::Reading::behind_last), unfolding(crate::specs::Format::op_at, crate::specs::Format::is_code))]
+pub fn op_at(s: &[u8], i: usize) -> Option<Op>
     requires { i ≤ length s.now }
     ensures { result ≡ op_at s.now i }
 {
     if s.len() <= i {
-        return no_op();
+        return None;
     }
     let code = s[i] as usize;
     if LAST_CODE < code {
-        return no_op();
+        return None;
     }
     let form = form_of(code);
     if form.used == 0 {
-        return no_op();
+        return None;
     }
     args_of(s, i + 1, code, form)
 }
 
 // The operation of a code with this row whose arguments are at i, or none.
-fn args_of(s: &[u8], i: usize, code: usize, f: Form) -> Op
+#[tactic(auto, using(crate::specs::Reading::run_if_inside), unfolding(crate::specs::Format::args_of, crate::specs::Format::op_of))]
+fn args_of(s: &[u8], i: usize, code: usize, f: Form) -> Option<Op>
     requires { (i ≤ length s.now) × (f ≡ form_of code) }
     ensures { result ≡ args_of s.now i code }
 {
@@ -221,17 +192,11 @@ fn args_of(s: &[u8], i: usize, code: usize, f: Form) -> Op
     let at_n = at_at + f.at;
     let at_runs = at_n + f.n;
     if s.len() < at_runs {
-        return no_op();
+        return None;
     }
-    let first = run_if(s, at_runs, 1 <= f.runs);
-    if !first.whole {
-        return no_op();
-    }
-    let second = run_if(s, first.to, 2 <= f.runs);
-    if !second.whole {
-        return no_op();
-    }
-    Op {
+    let first = run_if(s, at_runs, 1 <= f.runs)?;
+    let second = run_if(s, first.to, 2 <= f.runs)?;
+    Some(Op {
         code: code,
         slot: le::get_at(s, i, f.slot) as usize,
         flag: le::get_at(s, at_flag, f.flag) as u8,
@@ -241,84 +206,58 @@ fn args_of(s: &[u8], i: usize, code: usize, f: Form) -> Op
         n: le::get_at(s, at_n, f.n) as usize,
         first: first,
         second: second,
-    }
+    })
 }
 
 // ---- the setup
 
-fn no_setup() -> Setup
-    ensures { result ≡ no_setup }
-{
-    Setup {
-        whole: false,
-        slots: 0,
-        rows: 0,
-        dir_rows: 0,
-        size: 0,
-        plan: no_span(),
-        phys: 0,
-        count: 0,
-        patches: 0,
-    }
-}
-
 // Whether a setup of these counts keeps the script's limits.
+#[tactic(auto, unfolding(crate::specs::Format::limits_ok))]
 fn limits_ok(slots: usize, rows: usize, dir_rows: usize, size: usize) -> bool
     requires { (slots < 256) × (size < 4294967296) }
     ensures { result ≡ limits_ok slots rows dir_rows size }
 {
-    if 64 < slots {
-        return false;
-    }
-    if 66 < rows {
-        return false;
-    }
-    if 258 < dir_rows {
-        return false;
-    }
-    slots * size <= 65536
+    slots <= 64 && rows <= 66 && dir_rows <= 258 && slots * size <= 65536
 }
 
-// The setup at the script's start, but for the patches, which `patch` reads.
-pub fn setup_at(s: &[u8]) -> Setup
+// The setup at the script's start, but for the patches, which `patch` reads. None where it is cut off, or passes the limits.
+#[tactic(auto, unfolding(crate::specs::Format::setup_at))]
+pub fn setup_at(s: &[u8]) -> Option<Setup>
     ensures { result ≡ setup_at s.now }
 {
     let n = s.len();
     if LONGEST <= n {
-        return no_setup();
+        return None;
     }
     if n < 9 {
-        return no_setup();
+        return None;
     }
     if s[0] != 1 {
-        return no_setup();
+        return None;
     }
     let slots = s[1] as usize;
     let rows = s[2] as usize;
     let dir_rows = le::get_at(s, 3, 2) as usize;
     let size = le::get_at(s, 5, 4) as usize;
     if !limits_ok(slots, rows, dir_rows, size) {
-        return no_setup();
+        return None;
     }
     behind_plan(s, slots, rows, dir_rows, size)
 }
 
 // The same with its counts read.
-fn behind_plan(s: &[u8], slots: usize, rows: usize, dir_rows: usize, size: usize) -> Setup
+#[tactic(auto, using(crate::specs::Reading::run_inside), unfolding(crate::specs::Format::behind_plan))]
+fn behind_plan(s: &[u8], slots: usize, rows: usize, dir_rows: usize, size: usize) -> Option<Setup>
     requires { (9 ≤ length s.now) × (slots < 256) }
     ensures { result ≡ behind_plan s.now slots rows dir_rows size (span_at s.now 9) }
 {
-    let plan = run_at(s, 9);
-    if !plan.whole {
-        return no_setup();
-    }
+    let plan = run_at(s, 9)?;
     let phys = plan.to;
     let counted = phys + slots * 4;
     if s.len() < counted + 2 {
-        return no_setup();
+        return None;
     }
-    Setup {
-        whole: true,
+    Some(Setup {
         slots: slots,
         rows: rows,
         dir_rows: dir_rows,
@@ -327,7 +266,7 @@ fn behind_plan(s: &[u8], slots: usize, rows: usize, dir_rows: usize, size: usize
         phys: phys,
         count: le::get_at(s, counted, 2) as usize,
         patches: counted + 2,
-    }
+    })
 }
 
 // Fills phys with the lengths that stand at i, a u32 each.
@@ -341,46 +280,37 @@ pub fn lengths(s: &[u8], i: usize, phys: &mut [u64])
     }
 }
 
-// Lays the patch at i over the device, and gives the place of its bytes. One that is cut off or not inside of the device changes nothing.
-fn patch_one(s: &[u8], i: usize, bytes: &mut [u8]) -> Span
+// Lays the patch at i over the device, and gives the place behind it. One that is cut off or not inside of the device changes nothing.
+#[tactic(auto, using(crate::specs::Reading::run_inside), unfolding(crate::specs::Format::patch_at, output::specs::Writer::pours))]
+fn patch_one(s: &[u8], i: usize, bytes: &mut [u8]) -> Option<usize>
     requires { i ≤ length s.now }
     ensures { patching result bytes.new ≡ patch_at s.now i bytes.old }
 {
     let from = i + 4;
     if s.len() < from {
-        return no_span();
+        return None;
     }
-    let run = run_at(s, from);
-    if !run.whole {
-        return no_span();
-    }
+    let run = run_at(s, from)?;
     let place = le::get_at(s, i, 4) as usize;
     let a = run.from;
     let e = run.to;
     if bytes.len() < place + (e - a) {
-        return no_span();
+        return None;
     }
     output::put_bytes(bytes, place, &s[a..e]);
-    run
+    Some(e)
 }
 
 // Lays the patches at i over the device, one after the other, and gives the place behind them, where the operations start. At the first
 // that is cut off or not inside of the device it stops.
-pub fn patch(s: &[u8], i: usize, count: usize, bytes: &mut [u8]) -> Span
+#[tactic(auto, using(crate::specs::Reading::place_behind), unfolding(crate::specs::Format::patched_m))]
+pub fn patch(s: &[u8], i: usize, count: usize, bytes: &mut [u8]) -> Option<usize>
     requires { i ≤ length s.now }
     ensures { patching result bytes.new ≡ patched_m s.now count i bytes.old }
 {
     let mut at = i;
     for _ in 0..count {
-        let run = patch_one(s, at, bytes);
-        if !run.whole {
-            return no_span();
-        }
-        at = run.to;
+        at = patch_one(s, at, bytes)?;
     }
-    Span {
-        from: at,
-        to: at,
-        whole: true,
-    }
+    Some(at)
 }

@@ -1,29 +1,19 @@
--- A turn of the loop is `patches_turn`: patching what is left gives the whole; `patches_stop` and `patches_end` are the ways out.
-use Rattle.std.proofs.Common.{◌≡◌, ◌∙◌, ℕ, suc, ◌+◌, ◌-◌, sym, ap, arith}
-use borrow.Author.Tests.{not-true, not-false}
-use Rattle.script_format.specs.declared.Span.{Span}
-use Rattle.script_format.specs.Format.{patching, patched_m}
-use Rattle.script_format.specs.Reading.{patch_end}
-use Rattle.script_format.proofs.Ways.{patches_stop, patches_turn, patches_end}
+-- A turn of the loop lays a patch (`one_laid`): laying those that are left gives the whole.
+use Rattle.std.proofs.Common.{◌≡◌, ◌∙◌, ℕ, suc, ◌+◌, ◌-◌, List, None, Some, sym, ap, arith}
+use Rattle.script_format.specs.Format.{Patching, patching, patch_at, patched_m}
+use Rattle.script_format.specs.Reading.{place_behind}
 use Rattle.script_format.proofs.patch.Goals as goal
 
-pub returns-then-not-run : goal.returns-then-not-run
-returns-then-not-run c =
-    let a = c.loop in
-    let n : c.args.count - a.counter ≡ suc (c.args.count - (a.counter + 1)) = omega arith in
-    ap (λ (r : Span). patching r c.patch_one-run.new.bytes) c.no_span.ensures
-    ∙ patches_stop _ (c.args.count - (a.counter + 1)) _ _ _ _ c.patch_one-run.ensures (not-true _ c.if-not-run.true)
-    ∙ ap (λ (j : ℕ). patched_m c.args.s.now j a.at a.bytes) (sym n) ∙ a.invariant.1
+one_laid : (s : List ℕ) (k i : ℕ) (d : List ℕ) (j : ℕ) (d' : List ℕ) → patching (Some j) d' ≡ patch_at s i d → patched_m s k j d' ≡ patched_m s (suc k) i d
+unfolding patched_m
+one_laid s k i d j d' e = ap {B = Patching} (λ (p : Patching). elim (p.behind) [ None ↦ patching None p.bytes | Some m ↦ patched_m s k m p.bytes ]) e
 
 pub loop-preserved : goal.loop-preserved
 loop-preserved c =
     let a = c.loop in
-    let n : c.args.count - a.counter ≡ suc (c.args.count - (a.counter + 1)) = omega arith in (
-      patch_end _ _ _ _ _ c.patch_one-run.ensures,
-      patches_turn _ (c.args.count - (a.counter + 1)) _ _ _ _ c.patch_one-run.ensures (not-false _ c.if-not-run.false)
-          ∙ ap (λ (j : ℕ). patched_m c.args.s.now j a.at a.bytes) (sym n) ∙ a.invariant.1,
+    let k : ℕ = c.args.count - (a.counter + 1) in
+    let n : c.args.count - a.counter ≡ suc k = omega arith in
+    let e = c.in_ok-at.ensures in (
+      place_behind _ _ _ _ _ e,
+      one_laid c.args.s.now k _ _ _ _ e ∙ ap (λ (j : ℕ). patched_m c.args.s.now j a.at a.bytes) (sym n) ∙ a.invariant.1,
     )
-
-pub returns : goal.returns
-returns c =
-    patches_end _ _ _ _ (omega arith) ∙ c.loop.invariant.1
