@@ -1,4 +1,4 @@
 -- Contents of proofs/, beside a folder for each function: what its proofs cite, and laws that crates above cite.
 
--- The ways out of the exported calls: one law for each, from the tests that were passed to the call's outcome.
+-- The ways out of the exported calls that their definitions, opened, do not show, and the count of searches.
 pub mod Ways

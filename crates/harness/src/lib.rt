@@ -24,6 +24,7 @@ pub fn slot_check(start: u32, bytes: &[u8]) -> u32
 }
 
 // 0 and the header block in the first 512 bytes of out; or 3, 4, 13. in_use is 0 for a free slot.
+#[tactic(auto, unfolding(crate::specs::Calls::encode_call))]
 pub fn header_encode(in_use: u8, len: u64, generation: u64, path: &[u8], out: &mut [u8]) -> u8
     ensures { outcome result out.new ≡ encode_call in_use len generation path.now out.old }
 {
@@ -49,6 +50,7 @@ pub fn header_encode(in_use: u8, len: u64, generation: u64, path: &[u8], out: &m
 }
 
 // 0 and in use, path length, file length and generation as four u64 in the first 32 bytes of out; 1 for an absent header; or 13.
+#[tactic(auto, unfolding(crate::specs::Calls::decode_call))]
 pub fn header_decode(block: &[u8], out: &mut [u8]) -> u8
     ensures { outcome result out.new ≡ decode_call block.now out.old }
 {
@@ -80,16 +82,15 @@ fn put_numbers(out: &mut [u8], h: Header)
 }
 
 // 1 if the bytes are text, else 0.
+#[tactic(auto, unfolding(crate::specs::Calls::text_call))]
 pub fn text_is(bytes: &[u8]) -> u8
     ensures { result ≡ text_call bytes.now }
 {
-    if text::is_text(bytes) {
-        return 1;
-    }
-    0
+    u8::from(text::is_text(bytes))
 }
 
 // 1 if a and b spell one path, else 0; or 3.
+#[tactic(auto, unfolding(crate::specs::Calls::same_call))]
 pub fn path_same(a: &[u8], b: &[u8]) -> u8
     ensures { result ≡ same_call a.now b.now }
 {
@@ -99,13 +100,11 @@ pub fn path_same(a: &[u8], b: &[u8]) -> u8
     if !text::is_text(b) {
         return 3;
     }
-    if path::same_path(a, b) {
-        return 1;
-    }
-    0
+    u8::from(path::same_path(a, b))
 }
 
 // The normal spelling in the front of out, and its length; or 3, 13.
+#[tactic(auto, unfolding(crate::specs::Calls::normal_call))]
 pub fn path_normal(path: &[u8], out: &mut [u8]) -> u64
     ensures { outcome result out.new ≡ normal_call path.now out.old }
 {
@@ -116,6 +115,7 @@ pub fn path_normal(path: &[u8], out: &mut [u8]) -> u64
 }
 
 // The normal spelling of the parent in the front of out, and its length; or 3, 5, 13.
+#[tactic(auto, unfolding(crate::specs::Calls::parent_call))]
 pub fn path_parent(path: &[u8], out: &mut [u8]) -> u64
     ensures { outcome result out.new ≡ parent_call path.now out.old }
 {
@@ -129,6 +129,7 @@ pub fn path_parent(path: &[u8], out: &mut [u8]) -> u64
 }
 
 // The normal spelling in the front of out, and its length; or 13.
+#[tactic(auto, unfolding(crate::specs::Calls::spelled))]
 fn spell(path: &[u8], out: &mut [u8]) -> u64
     ensures { outcome result out.new ≡ spelled (normal path.now) out.old }
 {
@@ -139,6 +140,7 @@ fn spell(path: &[u8], out: &mut [u8]) -> u64
 }
 
 // A refusal where an answer has a value.
+#[tactic(auto, unfolding(crate::specs::Calls::refusal))]
 fn refusal(number: u8) -> u64
     ensures { result ≡ refusal number }
 {
@@ -155,6 +157,7 @@ pub fn pool_script(script: &[u8], out: &mut [u8]) -> usize
 
 // Whether rows, and a record of these counts with an empty queue, are a pool: 1 or 0. Every public call begins with this test; it is
 // exported so that its time can be measured alone.
+#[tactic(auto, unfolding(crate::specs::Calls::record_call))]
 pub fn record_check(
     nums: &[u64],
     names: &[u8],
@@ -168,14 +171,12 @@ pub fn record_check(
     ensures { result ≡ record_call nums.now names.now dirs.now rows dir_rows held dirs_held counter }
 {
     let pool = counted(rows, dir_rows, held, dirs_held, counter);
-    if pool_test::pool_ok(nums, names, dirs, pool) {
-        return 1;
-    }
-    0
+    u8::from(pool_test::pool_ok(nums, names, dirs, pool))
 }
 
 // The same test once, and where it is a pool the path is looked for so many times: how many times it was found. Exported so that a search
 // can be measured without the test.
+#[tactic(auto, unfolding(crate::specs::Calls::lookups_call))]
 pub fn record_lookups(
     nums: &[u64],
     names: &[u8],
@@ -203,14 +204,11 @@ fn lookups(nums: &[u64], names: &[u8], dirs: &[u8], pool: Pool, path: &[u8], tim
     requires { IsPool (bufs pool nums.now names.now dirs.now) }
     ensures { result ≡ hits path.now (view (bufs pool nums.now names.now dirs.now)) times }
 {
-    let mut i = 0u64;
     let mut found = 0u64;
-    while i < times {
+    for _ in 0..times {
         let reader = inner_open::open_read(nums, names, dirs, pool, path);
-        let out = reader.out;
-        i = i + 1;
-        if out == 0 {
-            found = i;
+        if reader.out == 0 {
+            found += 1;
         }
     }
     found
