@@ -5,7 +5,7 @@
 
 ghost use Rattle.std.specs.Prelude.{◌≡◌};
 ghost use Rattle.device.specs.Device.{dev};
-ghost use Rattle.slot_rows.specs.Rows.{rows_of, Flat};
+ghost use Rattle.slot_rows.specs.Held.{held, Lie};
 ghost use Rattle.pool_state.specs.State.{bufs, bufs_before, view, IsPool};
 ghost use Rattle.pool_steps.specs.World.{lent, view_w, Ready, before, after};
 ghost use Rattle.pool_steps.specs.Outcome.{outcome, flat_o};
@@ -13,6 +13,7 @@ ghost use Rattle.inner_handle.specs.Handles.{is_live, file_len_m, filling, read_
 
 use device::{Geometry, Place};
 use pool_state::Pool;
+use slot_rows::Rows;
 
 // The number of a call, and a file's length.
 #[derive(Clone, Copy)]
@@ -38,17 +39,11 @@ pub struct Filled {
 
 // Whether the slot is held and bound, under this generation.
 #[tactic(auto, using(slot_rows::proofs::InBuffers::length_rows), unfolding(crate::specs::Handles::is_live))]
-pub fn live(nums: &[u64], names: &[u8], cap: usize, n: usize, slot: usize, generation: u64) -> bool
-    requires { Flat cap n nums.now names.now }
-    ensures { result ≡ is_live slot generation (rows_of nums.now names.now n) }
+pub fn live(rows: &Rows, slot: usize, generation: u64) -> bool
+    requires { Lie rows.now }
+    ensures { result ≡ is_live slot generation (held rows.now) }
 {
-    if n <= slot {
-        return false;
-    }
-    if slot_rows::is_bound(nums, names, cap, n, slot) {
-        return slot_rows::row_generation(nums, names, cap, n, slot) == generation;
-    }
-    false
+    slot < rows.n && rows.is_bound(slot) && rows.row_generation(slot) == generation
 }
 
 // The file's length. The directories are lent only to be part of the pool.
@@ -63,12 +58,16 @@ pub fn file_len(
     requires { IsPool (bufs pool nums.now names.now dirs.now) }
     ensures { result ≡ file_len_m slot generation (view (bufs_before nums.now names.now dirs.now pool)) }
 {
-    let cap = pool.chosen.rows;
-    let n = pool.held;
-    if live(nums, names, cap, n, slot, generation) {
+    let rows = Rows {
+        nums,
+        names,
+        cap: pool.chosen.rows,
+        n: pool.held,
+    };
+    if live(&rows, slot, generation) {
         return Len {
             out: 0,
-            len: slot_rows::row_len(nums, names, cap, n, slot),
+            len: rows.row_len(slot),
         };
     }
     Len { out: 6, len: 0 }
@@ -98,14 +97,20 @@ pub fn read_at(
 {
     let cap = pool.chosen.rows;
     let n = pool.held;
-    if !live(nums, names, cap, n, slot, generation) {
+    let rows = Rows {
+        nums,
+        names,
+        cap,
+        n,
+    };
+    if !live(&rows, slot, generation) {
         return Filled {
             out: 6,
             count: 0,
             place: place,
         };
     }
-    let len = slot_rows::row_len(nums, names, cap, n, slot);
+    let len = rows.row_len(slot);
     if len <= at {
         return Filled {
             out: 0,
@@ -156,13 +161,19 @@ pub fn write_at(
 {
     let cap = pool.chosen.rows;
     let n = pool.held;
-    if !live(nums, names, cap, n, slot, generation) {
+    let rows = Rows {
+        nums,
+        names,
+        cap,
+        n,
+    };
+    if !live(&rows, slot, generation) {
         return Ended {
             out: 6,
             place: place,
         };
     }
-    let len = slot_rows::row_len(nums, names, cap, n, slot);
+    let len = rows.row_len(slot);
     let put = device::data_write(bytes, phys, geometry, plan, place, slot, at, src);
     let last = put.last;
     if last != 0 {
@@ -198,7 +209,13 @@ pub fn set_len(
 {
     let cap = pool.chosen.rows;
     let n = pool.held;
-    if !live(nums, names, cap, n, slot, generation) {
+    let rows = Rows {
+        nums,
+        names,
+        cap,
+        n,
+    };
+    if !live(&rows, slot, generation) {
         return Ended {
             out: 6,
             place: place,
@@ -236,13 +253,19 @@ pub fn sync(
 {
     let cap = pool.chosen.rows;
     let n = pool.held;
-    if !live(nums, names, cap, n, slot, generation) {
+    let rows = Rows {
+        nums,
+        names,
+        cap,
+        n,
+    };
+    if !live(&rows, slot, generation) {
         return Ended {
             out: 6,
             place: place,
         };
     }
-    if slot_rows::is_dirty(nums, names, cap, n, slot) {
+    if rows.is_dirty(slot) {
         let put = pool_steps::sync_row(
             bytes, phys, geometry, plan, place, nums, names, dirs, pool, slot,
         );

@@ -18,6 +18,7 @@ use device::{Geometry, Place};
 use limits::{LAST_COUNTER, MAX_PATH};
 use pool_state::Pool;
 use pool_steps::Done;
+use slot_rows::Rows;
 
 // The number of open_read, and the handle.
 #[derive(Clone, Copy)]
@@ -104,14 +105,18 @@ pub fn open_read(nums: &[u64], names: &[u8], dirs: &[u8], pool: Pool, path: &[u8
     requires { IsPool (bufs pool nums.now names.now dirs.now) }
     ensures { result ≡ open_read_m path.now (view (bufs_before nums.now names.now dirs.now pool)) }
 {
-    let cap = pool.chosen.rows;
-    let n = pool.held;
-    let i = slot_rows::find_row(nums, names, cap, n, path);
-    if i < n {
+    let rows = Rows {
+        nums,
+        names,
+        cap: pool.chosen.rows,
+        n: pool.held,
+    };
+    let i = rows.find_row(path);
+    if i < rows.n {
         return Reader {
             out: 0,
             slot: i,
-            generation: slot_rows::row_generation(nums, names, cap, n, i),
+            generation: rows.row_generation(i),
         };
     }
     Reader {
@@ -143,13 +148,19 @@ fn reopen(
 {
     let cap = pool.chosen.rows;
     let n = pool.held;
-    let generation = slot_rows::row_generation(nums, names, cap, n, i);
+    let rows = Rows {
+        nums,
+        names,
+        cap,
+        n,
+    };
+    let generation = rows.row_generation(i);
     if keep {
         return Writer {
             out: 0,
             slot: i,
             generation: generation,
-            len: slot_rows::row_len(nums, names, cap, n, i),
+            len: rows.row_len(i),
             place: place,
             pool: pool,
         };
@@ -234,9 +245,14 @@ pub fn open_write(
     if MAX_PATH < path.len() {
         return refused(4, place, pool);
     }
-    let cap = pool.chosen.rows;
     let n = pool.held;
-    let i = slot_rows::find_row(nums, names, cap, n, path);
+    let rows = Rows {
+        nums,
+        names,
+        cap: pool.chosen.rows,
+        n,
+    };
+    let i = rows.find_row(path);
     if i < n {
         return reopen(
             bytes, phys, geometry, plan, place, nums, names, dirs, pool, i, keep,
@@ -272,9 +288,14 @@ pub fn remove_file(
     ensures { outcome result.out tt (after bytes.new phys.new result.place nums.new names.new dirs.now result.pool)
         ≡ flat_o (remove_m plan.now geometry path.now (view_w (before bytes.old phys.old place nums.old names.old dirs.now pool))) }
 {
-    let cap = pool.chosen.rows;
     let n = pool.held;
-    let i = slot_rows::find_row(nums, names, cap, n, path);
+    let rows = Rows {
+        nums,
+        names,
+        cap: pool.chosen.rows,
+        n,
+    };
+    let i = rows.find_row(path);
     if n <= i {
         return Done {
             out: 5,

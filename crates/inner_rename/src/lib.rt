@@ -21,6 +21,7 @@ use header::Header;
 use limits::MAX_PATH;
 use pool_state::Pool;
 use pool_steps::{Done, Stepped};
+use slot_rows::Rows;
 
 // The number of a rename that ends before the device, or that it goes on, with the slot of `from` and that of `to`, which is the count of
 // slots where no file has that path.
@@ -58,9 +59,14 @@ fn front(nums: &[u64], names: &[u8], dirs: &[u8], pool: Pool, from: &[u8], to: &
     if MAX_PATH < to.len() {
         return stop(4);
     }
-    let cap = pool.chosen.rows;
     let n = pool.held;
-    let i = slot_rows::find_row(nums, names, cap, n, from);
+    let rows = Rows {
+        nums,
+        names,
+        cap: pool.chosen.rows,
+        n,
+    };
+    let i = rows.find_row(from);
     if path::same_path(from, to) {
         if i < n {
             return stop(0);
@@ -70,7 +76,7 @@ fn front(nums: &[u64], names: &[u8], dirs: &[u8], pool: Pool, from: &[u8], to: &
     if n <= i {
         return stop(5);
     }
-    let j = slot_rows::find_row(nums, names, cap, n, to);
+    let j = rows.find_row(to);
     let need = needed(j, n);
     let no = inner_open::room(dirs, pool, to, need);
     if no != 0 {
@@ -110,7 +116,13 @@ fn rebind(
     let cap = pool.chosen.rows;
     let n = pool.held;
     let generation = pool.counter;
-    let len = slot_rows::row_len(nums, names, cap, n, i);
+    let rows = Rows {
+        nums,
+        names,
+        cap,
+        n,
+    };
+    let len = rows.row_len(i);
     let header = Header::bound(to.len(), len, generation);
     let put = device_lent::put_header(bytes, phys, geometry, plan, place, i, header, to);
     let spent = pool_state::next_generation(pool);
@@ -239,10 +251,14 @@ pub fn rename(
     }
     let i = f.from;
     let j = f.to;
-    let cap = pool.chosen.rows;
-    let n = pool.held;
     let generation = pool.counter;
-    let len = slot_rows::row_len(nums, names, cap, n, i);
+    let rows = Rows {
+        nums,
+        names,
+        cap: pool.chosen.rows,
+        n: pool.held,
+    };
+    let len = rows.row_len(i);
     let moved = rebind(
         bytes, phys, geometry, plan, place, nums, names, dirs, pool, i, to,
     );

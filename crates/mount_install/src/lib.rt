@@ -7,15 +7,17 @@
 ghost use Rattle.std.specs.Prelude.{◌≡◌, cond, ℕ, ◌≤◌, ◌<◌, length, take, drop};
 ghost use Rattle.lists.specs.Distinct.{In};
 ghost use Rattle.slot_rows.specs.Rows.{at, path_of, rows_of, Flat};
+ghost use Rattle.slot_rows.specs.Held.{held, Lie};
 ghost use Rattle.dir_rows.specs.Dirs.{registered};
 ghost use Rattle.dir_rows.specs.Rows.{dirs_of, flat_dirs, FlatDirs};
 ghost use Rattle.pool_state.specs.Queue.{pushed};
-ghost use Rattle.mount_survey.specs.Staged.{spares, vacated};
+ghost use Rattle.mount_survey.specs.Staged.{claimed, spares, vacated};
 ghost use Rattle.mount_install.specs.Install.{answered, kept, refusal, Taken, unstaged, pushed_all, holding};
 ghost use Rattle.mount_install.specs.Install.{three_before, three_after, rows_before, claimed_before};
 
-use limits::{DIR_WIDTH, LAST_COUNTER, MAX_PATH};
+use limits::{DIR_WIDTH, LAST_COUNTER};
 use pool_state::Pool;
+use slot_rows::Rows;
 
 // The refusal that the new slots meet, or 0, and how many directories there are then.
 #[derive(Clone, Copy)]
@@ -39,50 +41,28 @@ pub fn clear_dirs(dirs: &mut [u8], cap: usize, d: usize, e: usize)
 
 // Registers the ancestors of row i's path, and gives how many directories there are then; none where there is no room for those that are
 // missing. An unbound row's path is empty and has no ancestor.
-fn register_row(
-    nums: &[u64],
-    names: &[u8],
-    dirs: &mut [u8],
-    cap: usize,
-    m: usize,
-    dir_cap: usize,
-    d: usize,
-    i: usize,
-) -> Option<usize>
-    requires { Flat cap m nums.now names.now × FlatDirs dir_cap d dirs.old × (i < m) }
-    ensures told { result ≡ answered dir_cap (registered (dirs_of dirs.old d) (path_of (at (rows_before nums.now names.now m) i))) }
-    ensures dirs { dirs.new
-        ≡ kept dir_cap (registered (dirs_of dirs.old d) (path_of (at (rows_before nums.now names.now m) i))) dirs.old }
+fn register_row(rows: &Rows, dirs: &mut [u8], dir_cap: usize, d: usize, i: usize) -> Option<usize>
+    requires { Lie rows.now × FlatDirs dir_cap d dirs.old × (i < rows.now.n) }
+    ensures told { result ≡ answered dir_cap (registered (dirs_of dirs.old d) (path_of (at (held rows.now) i))) }
+    ensures dirs { dirs.new ≡ kept dir_cap (registered (dirs_of dirs.old d) (path_of (at (held rows.now) i))) dirs.old }
 {
-    let k = slot_rows::path_len(nums, names, cap, m, i);
-    let from = i * MAX_PATH;
-    let more = dir_rows::missing(dirs, d, &names[from..from + k]);
-    if dir_cap - d < more {
+    let path = rows.path(i);
+    if dir_cap - d < dir_rows::missing(dirs, d, path) {
         return None;
     }
-    let e = dir_rows::register_ancestors(dirs, dir_cap, d, &names[from..from + k]);
-    Some(e)
+    Some(dir_rows::register_ancestors(dirs, dir_cap, d, path))
 }
 
-// Registers the ancestors of the paths of the rows from n to m - 1, and gives how many directories there are then; where there is no room
-// for all, none is registered.
-pub fn register_claims(
-    nums: &[u64],
-    names: &[u8],
-    dirs: &mut [u8],
-    cap: usize,
-    n: usize,
-    m: usize,
-    dir_cap: usize,
-    d: usize,
-) -> Option<usize>
-    requires { Flat cap m nums.now names.now × FlatDirs dir_cap d dirs.old × (n ≤ m) }
-    ensures told { result ≡ answered dir_cap (claimed_before nums.now names.now dirs.old n m d) }
-    ensures dirs { dirs.new ≡ kept dir_cap (claimed_before nums.now names.now dirs.old n m d) dirs.old }
+// Registers the ancestors of the paths of the rows from n on, and gives how many directories there are then; where there is no room for
+// all, none is registered.
+pub fn register_claims(rows: &Rows, n: usize, dirs: &mut [u8], dir_cap: usize, d: usize) -> Option<usize>
+    requires { Lie rows.now × FlatDirs dir_cap d dirs.old × (n ≤ rows.now.n) }
+    ensures told { result ≡ answered dir_cap (claimed (drop n (held rows.now)) (dirs_of dirs.old d)) }
+    ensures dirs { dirs.new ≡ kept dir_cap (claimed (drop n (held rows.now)) (dirs_of dirs.old d)) dirs.old }
 {
     let mut e = d;
-    for i in n..m {
-        let Some(one) = register_row(nums, names, dirs, cap, m, dir_cap, e, i) else {
+    for i in n..rows.n {
+        let Some(one) = register_row(rows, dirs, dir_cap, e, i) else {
             clear_dirs(dirs, dir_cap, d, e);
             return None;
         };
@@ -118,7 +98,13 @@ pub fn accept(
     let n = pool.held;
     let dir_cap = pool.chosen.dir_rows;
     let d = pool.dirs;
-    let Some(e) = register_claims(nums, names, dirs, cap, n, m, dir_cap, d) else {
+    let rows = Rows {
+        nums,
+        names,
+        cap,
+        n: m,
+    };
+    let Some(e) = register_claims(&rows, n, dirs, dir_cap, d) else {
         mount_survey::unstage(nums, names, cap, n, m);
         return Accepted { out: 8, dirs: 0 };
     };
@@ -143,15 +129,14 @@ fn queue_spare(pool: Pool, slot: usize, bound: bool) -> Pool
     pool_state::push_free(pool, slot)
 }
 
-// The unbound rows from n to m - 1 join the queue's end, lowest first.
-pub fn queue_spares(nums: &[u64], names: &[u8], pool: Pool, cap: usize, n: usize, m: usize) -> Pool
-    requires { Flat cap m nums.now names.now × (n ≤ m) × (m ≤ 64) × (pool.free ≤ n) }
-    ensures { result ≡ pushed_all (spares n (drop n (rows_of nums.now names.now m))) pool }
+// The unbound rows from n on join the queue's end, lowest first.
+pub fn queue_spares(rows: &Rows, n: usize, pool: Pool) -> Pool
+    requires { Lie rows.now × (n ≤ rows.now.n) × (rows.now.n ≤ 64) × (pool.free ≤ n) }
+    ensures { result ≡ pushed_all (spares n (drop n (held rows.now))) pool }
 {
     let mut q = pool;
-    for i in n..m {
-        let bound = slot_rows::is_bound(nums, names, cap, m, i);
-        q = queue_spare(q, i, bound);
+    for i in n..rows.n {
+        q = queue_spare(q, i, rows.is_bound(i));
     }
     q
 }
@@ -195,7 +180,13 @@ pub fn install(
 {
     let cap = pool.chosen.rows;
     let n = pool.held;
-    let mut r = queue_spares(nums, names, pool, cap, n, m);
+    let rows = Rows {
+        nums,
+        names,
+        cap,
+        n: m,
+    };
+    let mut r = queue_spares(&rows, n, pool);
     unbind_losers(nums, names, cap, m, losers, count);
     r.held = m;
     r.dirs = dirs;

@@ -8,13 +8,15 @@ ghost use Rattle.std.specs.Prelude.{max, length, get_or, take, replicate, eqb, l
 ghost use Rattle.lists.specs.Blocks.{pad};
 ghost use Rattle.device.specs.Device.{turn, given, Shape};
 ghost use Rattle.path.specs.Path.{key_of};
-ghost use Rattle.slot_rows.specs.Rows.{at, path_of, holds, find, rows_of, Flat, flat_nums, flat_names};
+ghost use Rattle.slot_rows.specs.Rows.{at, holds, find, rows_of, Flat, flat_nums, flat_names};
+ghost use Rattle.slot_rows.specs.Held.{held, Lie};
 ghost use Rattle.mount_survey.specs.Heads.{dev_before, head_of, looked, reads_m};
 ghost use Rattle.mount_survey.specs.Claims.{row_of, asks_for, asks, asked_of, losers_of, left, live, loser_of};
 
 use device::{Geometry, Place};
 use header::Header;
 use limits::{LAST_COUNTER, MAX_PATH, ROW_WIDTH};
+use slot_rows::Rows;
 
 // The place after the reads, whether one failed, and what the valid headers ask of the counter.
 #[derive(Clone, Copy)]
@@ -196,8 +198,14 @@ pub fn find_losers(nums: &[u64], names: &[u8], cap: usize, n: usize, m: usize) -
     let mut lost = [0u8; 64];
     let mut list = [0u8; 64];
     let mut count = 0;
+    let rows = Rows {
+        nums,
+        names,
+        cap,
+        n: m,
+    };
     for i in n..m {
-        let l = loser(nums, names, cap, m, &lost, i);
+        let l = loser(&rows, &lost, i);
         if l < m {
             lost[l] = 1;
             list[count] = l as u8;
@@ -207,46 +215,33 @@ pub fn find_losers(nums: &[u64], names: &[u8], cap: usize, n: usize, m: usize) -
     Losers { list, count }
 }
 
-// The slot that loses where row i comes behind the rows before it, of which some have lost: i, the holder of its path, or m for none.
-fn loser(nums: &[u64], names: &[u8], cap: usize, m: usize, lost: &[u8], i: usize) -> usize
-    requires { Flat cap m nums.now names.now × (i < m) × (m ≤ length lost.now) }
-    ensures { result
-        ≡ loser_of m (live lost.now (take i (rows_of nums.now names.now m)))
-        (at (rows_of nums.now names.now m) i) }
+// The slot that loses where row i comes behind the rows before it, of which some have lost: i, the holder of its path, or the count of the
+// rows for none.
+fn loser(rows: &Rows, lost: &[u8], i: usize) -> usize
+    requires { Lie rows.now × (i < rows.now.n) × (rows.now.n ≤ length lost.now) }
+    ensures { result ≡ loser_of rows.now.n (live lost.now (take i (held rows.now))) (at (held rows.now) i) }
 {
-    if slot_rows::is_bound(nums, names, cap, m, i) {
-        let k = slot_rows::path_len(nums, names, cap, m, i);
-        let from = i * MAX_PATH;
-        let j = holder(nums, names, cap, m, lost, i, &names[from..from + k]);
-        if j < i {
-            let mine = slot_rows::row_generation(nums, names, cap, m, i);
-            let held = slot_rows::row_generation(nums, names, cap, m, j);
-            if held >= mine {
-                return i;
-            }
-            return j;
-        }
-        return m;
+    if !rows.is_bound(i) {
+        return rows.n;
     }
-    m
+    let j = holder(rows, lost, i, rows.path(i));
+    if i <= j {
+        return rows.n;
+    }
+    if rows.row_generation(j) >= rows.row_generation(i) {
+        return i;
+    }
+    j
 }
 
 // The first of the rows before i that holds a path equal to p and has not lost, or i.
-fn holder(
-    nums: &[u64],
-    names: &[u8],
-    cap: usize,
-    m: usize,
-    lost: &[u8],
-    i: usize,
-    p: &[u8],
-) -> usize
-    requires { Flat cap m nums.now names.now × (i < m) × (m ≤ length lost.now) }
-    ensures { result ≡ find p.now (live lost.now (take i (rows_of nums.now names.now m))) }
+fn holder(rows: &Rows, lost: &[u8], i: usize, p: &[u8]) -> usize
+    requires { Lie rows.now × (i < rows.now.n) × (rows.now.n ≤ length lost.now) }
+    ensures { result ≡ find p.now (live lost.now (take i (held rows.now))) }
 {
     let key = path::key(p);
     for j in 0..i {
-        if stands(nums, names, cap, m, lost, j, p, key) {
+        if stands(rows, lost, j, p, key) {
             return j;
         }
     }
@@ -254,23 +249,9 @@ fn holder(
 }
 
 // Whether row j has not lost and holds a path equal to p, whose key is given.
-fn stands(
-    nums: &[u64],
-    names: &[u8],
-    cap: usize,
-    m: usize,
-    lost: &[u8],
-    j: usize,
-    p: &[u8],
-    key: u32,
-) -> bool
-    requires { Flat cap m nums.now names.now × (j < m) × (m ≤ length lost.now) × (key ≡ key_of p.now) }
-    ensures { result
-        ≡ holds p.now
-        (left (get_or lost.now j 0) (at (rows_of nums.now names.now m) j)) }
+fn stands(rows: &Rows, lost: &[u8], j: usize, p: &[u8], key: u32) -> bool
+    requires { Lie rows.now × (j < rows.now.n) × (rows.now.n ≤ length lost.now) × (key ≡ key_of p.now) }
+    ensures { result ≡ holds p.now (left (get_or lost.now j 0) (at (held rows.now) j)) }
 {
-    if lost[j] != 0 {
-        return false;
-    }
-    slot_rows::row_is(nums, names, cap, m, j, p, key)
+    lost[j] == 0 && rows.row_is(j, p, key)
 }

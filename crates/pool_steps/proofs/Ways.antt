@@ -101,19 +101,15 @@ header_path : (r : Row) (x : Header) → x ≡ row_header r → x.path_len ≡ l
 unfolding row_header
 header_path r x e = ap (λ (y : Header). y.path_len) e
 
--- the part of the names that a row's header goes with
-pub row_part : (g : Geometry) (l : Lent) (R : Ready g l) (i : ℕ) (h : i < l.bufs.pool.held) (x : Header)
+-- a row's header goes with its path
+pub header_fits : (g : Geometry) (l : Lent) (R : Ready g l) (i : ℕ) (x : Header) (p : List ℕ)
     → x ≡ row_header (at (rows_of l.bufs.nums l.bufs.names l.bufs.pool.held) i)
-    → (i * max_path + x.path_len ≤ length l.bufs.names)
-    × (take (i * max_path + x.path_len - i * max_path) (drop (i * max_path) l.bufs.names) ≡ path_of (at (rows_of l.bufs.nums l.bufs.names l.bufs.pool.held) i))
-    × (length (take (i * max_path + x.path_len - i * max_path) (drop (i * max_path) l.bufs.names)) ≡ x.path_len)
-    × (x.path_len ≤ max_path)
-row_part g l R i h x e =
+    → p ≡ path_of (at (rows_of l.bufs.nums l.bufs.names l.bufs.pool.held) i)
+    → (length p ≡ x.path_len) × (x.path_len ≤ max_path)
+header_fits g l R i x p e f =
     let b = l.bufs in
-    let F = pool_rows b R.pool in
     let k = header_path (at (rows_of b.nums b.names b.pool.held) i) x e in
-    let p = name_part b.pool.chosen.rows b.pool.held b.nums b.names F i h x.path_len k in
-    (p.0, p.1, ap length p.1 ∙ sym k, omega (arith, F.short i))
+    (ap length f ∙ sym k, omega (arith, (pool_rows b R.pool).short i))
 
 module _ (g : Geometry) (l : Lent) (R : Ready g l) (i : ℕ) (plan : List ℕ) (d : Dev) (x : Header) (p : List ℕ)
     (hx : x ≡ row_header (at (rows_of l.bufs.nums l.bufs.names l.bufs.pool.held) i))

@@ -8,15 +8,16 @@ ghost use Rattle.std.specs.Prelude.{◌≡◌, true, ◌^◌, ◌≤◌, ◌<◌
 ghost use Rattle.limits.specs.Limits.{last_counter};
 ghost use Rattle.lists.specs.Distinct.{In};
 ghost use Rattle.device.specs.Device.{dev, Shape, dev_before, dev_after};
-ghost use Rattle.slot_rows.specs.Rows.{at, is_bound, rows_of, Flat};
+ghost use Rattle.slot_rows.specs.Rows.{at, is_bound, rows_of};
+ghost use Rattle.slot_rows.specs.Held.{held, Lie};
 ghost use Rattle.pool_state.specs.State.{bufs, queue_of};
 ghost use Rattle.pool_steps.specs.World.{lent, view_w, flat_w, Ready, before, after};
 ghost use Rattle.pool_steps.specs.Steps.{free_m, release_m, row_header, sync_row_m};
 
 use device::{Geometry, Place};
 use header::Header;
-use limits::MAX_PATH;
 use pool_state::Pool;
+use slot_rows::Rows;
 
 // The place after a step, and the pool's record.
 #[derive(Clone, Copy)]
@@ -96,14 +97,12 @@ pub fn release(
 }
 
 // The header of the bound row i.
-pub fn row_header(nums: &[u64], names: &[u8], cap: usize, n: usize, i: usize) -> Header
-    requires { Flat cap n nums.now names.now × (i < n) }
-    ensures { result ≡ row_header (at (rows_of nums.now names.now n) i) }
+#[tactic(auto, unfolding(crate::specs::Steps::row_header))]
+pub fn row_header(rows: &Rows, i: usize) -> Header
+    requires { Lie rows.now × (i < rows.now.n) }
+    ensures { result ≡ row_header (at (held rows.now) i) }
 {
-    let k = slot_rows::path_len(nums, names, cap, n, i);
-    let len = slot_rows::row_len(nums, names, cap, n, i);
-    let generation = slot_rows::row_generation(nums, names, cap, n, i);
-    Header::bound(k, len, generation)
+    Header::bound(rows.path(i).len(), rows.row_len(i), rows.row_generation(i))
 }
 
 // Writes and flushes the header of the bound row i, which makes the row clean; where that fails, no row changes.
@@ -126,19 +125,15 @@ pub fn sync_row(
 {
     let cap = pool.chosen.rows;
     let n = pool.held;
-    let header = row_header(nums, names, cap, n, i);
-    let k = header.path_len;
-    let from = i * MAX_PATH;
-    let put = device_lent::put_header(
-        bytes,
-        phys,
-        geometry,
-        plan,
-        place,
-        i,
-        header,
-        &names[from..from + k],
-    );
+    let rows = Rows {
+        nums,
+        names,
+        cap,
+        n,
+    };
+    let header = row_header(&rows, i);
+    let path = rows.path(i);
+    let put = device_lent::put_header(bytes, phys, geometry, plan, place, i, header, path);
     let last = put.last;
     if last != 0 {
         return put;

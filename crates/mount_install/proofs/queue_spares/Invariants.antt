@@ -4,4 +4,4 @@ use Rattle.mount_install.proofs.Walks.{Queueing}
 use Rattle.mount_install.proofs.queue_spares.Given as goal
 
 abbrev pub invariant-loop-i : goal.invariant-loop-i
-invariant-loop-i l = (l.i ≤ l.m) × (l.q.free ≤ l.i) × Queueing l.nums l.names l.n l.m l.initial.q l.i l.q
+invariant-loop-i l = (l.i ≤ l.rows.n) × (l.q.free ≤ l.i) × Queueing l.rows.nums.now l.rows.names.now l.n l.rows.n l.initial.q l.i l.q

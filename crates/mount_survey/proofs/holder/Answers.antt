@@ -24,5 +24,5 @@ loop-j-preserved c =
 
 pub returns : goal.returns
 returns c =
-    let args = c.args in
-    passed_all _ _ _ _ (omega (arith, length_rows args.nums.now args.names.now args.m)) _ c.loop-j-test.false c.loop-j.invariant
+    let rows = c.args.rows.now in
+    passed_all _ _ _ _ (omega (arith, length_rows rows.nums.now rows.names.now rows.n)) _ c.loop-j-test.false c.loop-j.invariant
