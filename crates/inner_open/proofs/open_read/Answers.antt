@@ -9,12 +9,12 @@ find_row-i-requires c =
 
 pub row_generation-requires : goal.row_generation-requires
 row_generation-requires c =
-    (pool_rows _ c.requires, c.if-i-n.true)
+    (pool_rows _ c.requires, c.if-i-rows.true)
 
-pub returns-then-i-n : goal.returns-then-i-n
-returns-then-i-n c =
-    open_read_found _ _ _ c.find_row-i.ensures.row _ c.if-i-n.true c.row_generation.ensures
+pub returns-then-i-rows : goal.returns-then-i-rows
+returns-then-i-rows c =
+    open_read_found _ _ _ c.find_row-i.ensures.row _ c.if-i-rows.true c.row_generation.ensures
 
 pub returns : goal.returns
 returns c =
-    open_read_none _ _ _ c.find_row-i.ensures.row c.if-i-n.false
+    open_read_none _ _ _ c.find_row-i.ensures.row c.if-i-rows.false
