@@ -15,10 +15,8 @@ pub fn fnv1a32(start: u32, s: &[u8]) -> u32
     ensures { result ≡ fnv_from start s.now }
 {
     let mut h = start;
-    let mut i = 0;
-    while i < s.len() {
-        h = step(h, s[i]);
-        i += 1;
+    for b in s {
+        h = step(h, *b);
     }
     h
 }
