@@ -27,11 +27,9 @@ pub fn put_le(dst: &mut [u8], x: u64)
     ensures { dst.new ≡ le (length dst.old) x }
 {
     let mut v = x;
-    let mut i = 0;
-    while i < dst.len() {
-        dst[i] = (v % 256) as u8;
-        v = v / 256;
-        i += 1;
+    for b in dst.iter_mut() {
+        *b = (v % 256) as u8;
+        v /= 256;
     }
 }
 
@@ -41,11 +39,8 @@ pub fn get_le(src: &[u8]) -> u64
     ensures { result ≡ unle src.now }
 {
     let mut r: u64 = 0;
-    let mut i = src.len();
-    while 0 < i {
-        i -= 1;
-        let b = src[i] as u64;
-        r = r * 256 + b;
+    for b in src.iter().rev() {
+        r = r * 256 + u64::from(*b);
     }
     r
 }
