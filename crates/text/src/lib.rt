@@ -4,7 +4,7 @@
 // early exit whether all of it is ASCII (below 128) or zero (0).
 #![tactic(auto)]
 
-ghost use Rattle.std.specs.Prelude.{◌≡◌, max};
+ghost use Rattle.std.specs.Prelude.{◌≡◌};
 ghost use Rattle.text.specs.Text.{owed, lead_of, lead_of3, lead_of4, step_of, walk_of, between, is_text};
 ghost use Rattle.text.specs.Greatest.{greatest};
 
@@ -33,19 +33,10 @@ pub fn greatest(s: &[u8]) -> u8
     ensures { result ≡ greatest s.now }
 {
     let mut top: u8 = 0;
-    let mut i = 0;
-    while i < s.len() {
-        top = greater(top, s[i]);
-        i += 1;
+    for b in s {
+        top = top.max(*b);
     }
     top
-}
-
-// The greater of two bytes.
-fn greater(a: u8, b: u8) -> u8
-    ensures { result ≡ max a b }
-{
-    if a < b { b } else { a }
 }
 
 // Where a reader stands behind all of s.
@@ -53,10 +44,8 @@ fn walk(s: &[u8]) -> Due
     ensures { result ≡ walk_of between s.now }
 {
     let mut d = owed(0, 0x80, 0xBF);
-    let mut i = 0;
-    while i < s.len() {
-        d = step(d, s[i]);
-        i += 1;
+    for b in s {
+        d = step(d, *b);
     }
     d
 }

@@ -3,22 +3,14 @@ use mathlib.Core.Path.{◌∙◌}
 use lib.ListN.{drop_of_length-le}
 use Rattle.text.specs.Text.{walk_of}
 use Rattle.text.proofs.Turns.{walk_turn}
-use native.Mathlib.Omega.{arith}
 use Rattle.text.proofs.walk.Goals as goal
 
-pub loop-i-init : goal.loop-i-init
-loop-i-init c =
-    (omega arith, rw c.owed-d.ensures)
-
-pub loop-i-preserved : goal.loop-i-preserved
-loop-i-preserved c = (
-  omega arith,
-  rw c.step-d.ensures
-      (walk_turn c.loop-i.d c.args.s.now c.loop-i.i c.loop-i-test.true
-      ∙ c.loop-i.invariant.1),
-)
+pub loop-b-preserved : goal.loop-b-preserved
+loop-b-preserved c =
+    let l = c.loop-b in
+    rw c.step-d.ensures (walk_turn l.d c.args.s.now l.b-index c.loop-b-test.true ∙ l.invariant)
 
 pub returns : goal.returns
 unfolding walk_of
 returns c =
-    rw (drop_of_length-le _ c.loop-i-test.false) at c.loop-i.invariant.1
+    rw (drop_of_length-le _ c.loop-b-test.false) at c.loop-b.invariant
