@@ -1,6 +1,9 @@
 -- Laws of the walk from the back.
-use Rattle.std.proofs.Common.{◌≡◌, ℕ, zero, suc, ◌+◌, ◌-◌, ◌<◌, ◌≤◌, true, false, cond, ◌⊎◌, List, [], ◌∷◌, ◌++◌, length, get_or, take, drop, sym, refl, ap, ◌∙◌, subst, inl, inr, ⊎_elim, append_assoc, append-nil, arith, length-append, take-append-drop, length-take-le, take_all, drop-cons, take-suc, take-take, take-add, le-ltb, lt-ltb, eq-eqb, ne_eqb}
+use Rattle.std.proofs.Common.{◌≡◌, ℕ, zero, suc, ◌+◌, ◌-◌, ◌<◌, ◌≤◌, true, false, cond, ◌⊎◌, List, [], ◌∷◌, ◌++◌, length, get_or, take, drop, sym, refl, ap, ◌∙◌, subst, inl, inr, ⊎_elim, append_assoc, append-nil, arith, length-append, take-append-drop, length-take, length-drop, length-take-le, take_all, take-suc, take-take, take-add, le-ltb, lt-ltb, eq-eqb, ne_eqb}
+use lib.Seq.{get_or-drop}
+use Rattle.std.proofs.lemmas.List.{get_or-take}
 use Rattle.le.proofs.Parts.{part_append}
+use Rattle.lists.specs.Fronts.{drop_take}
 use Rattle.lists.specs.Same.{same, same_bytes, same_snoc, same_length}
 use Rattle.path.specs.Path.{idle, names, split, components, same_path}
 use Rattle.path.specs.Walk.{rest, Free, Starts, ended, Last}
@@ -8,14 +11,23 @@ use Rattle.path.proofs.Parts.{components_append, components_one, rest_one, rest_
 
 -- ---- the start of a part
 
-pub starts_more : (s : List ℕ) (e a : ℕ) → 0 < a → a ≤ e → e ≤ length s → (get_or s (a - 1) 0 ≡ 47 → ⊥) → Free (take (e - a) (drop a s)) → Free (take (e - (a - 1)) (drop (a - 1) s))
-starts_more s e a p q l n f =
-    let k : e - (a - 1) ≡ suc (e - a) = omega arith in
-    let m : suc (a - 1) ≡ a = omega arith in
-    rw (k, drop-cons s (a - 1) 0 (omega arith), m) (ne_eqb (get_or s (a - 1) 0) 47 n, f)
+free_is : (t : List ℕ) → ((k : ℕ) → k < length t → get_or t k 0 ≡ 47 → ⊥) → Free t
+free_is [] f = tt
+free_is (b ∷ t) f = (ne_eqb b 47 (f 0 (omega arith)), free_is t (λ k h. f (suc k) (omega arith)))
 
-pub starts_none : (s : List ℕ) (e : ℕ) → Free (take (e - e) (drop e s))
-starts_none s e = let z : e - e ≡ 0 = omega arith in rw z tt
+pub starts_front : (s : List ℕ) (e : ℕ) → ((k : ℕ) → k < length (take e s) → get_or (take e s) k 0 ≡ 47 → ⊥) → Starts s e 0
+starts_front s e f = record { inside = omega arith; free = let z : e - 0 ≡ e = omega arith in rw z (free_is (take e s) f); edge = inl refl }
+
+pub starts_behind : (s : List ℕ) (e k : ℕ) → k < length (take e s) → get_or (take e s) k 0 ≡ 47 → ((j : ℕ) → k < j → j < length (take e s) → get_or (take e s) j 0 ≡ 47 → ⊥)
+    → Starts s e (k + 1)
+starts_behind s e k h g f =
+    let n : k < e = omega (arith, length-take e s) in
+    record {
+      inside = omega arith;
+      free = rw (← drop_take (k + 1) e s) (free_is (drop (k + 1) (take e s))
+          (λ j l. rw get_or-drop (f (k + 1 + j) (omega arith) (omega (arith, length-drop (k + 1) (take e s))))));
+      edge = inr (let z : k + 1 - 1 ≡ k = omega arith in rw z (sym (get_or-take e s k 0 n) ∙ g));
+    }
 
 -- a part that ends with another byte than a slash is not empty
 pub starts_some : (s : List ℕ) (e a : ℕ) → Starts s e a → 0 < e → (get_or s (e - 1) 0 ≡ 47 → ⊥) → a < e

@@ -1,6 +1,7 @@
--- Equality of bytes, at places: one byte on, and eight read as a number.
-use Rattle.std.proofs.Common.{◌≡◌, ℕ, ◌+◌, ◌<◌, ◌≤◌, Bool, true, false, cond, eqb, List, [], ◌∷◌, ◌++◌, length, get_or, take, drop, sym, ap, ◌∙◌, add-one, arith, drop_of_length-le, length-take-le, take_all, drop-cons, take-add, eq-eqb, ne_eqb}
+-- Equality of bytes: as the library tests it, and eight of them read as a number.
+use Rattle.std.proofs.Common.{◌≡◌, ℕ, ◌+◌, ◌≤◌, Bool, true, false, cond, ◌&&◌, eqb, List, [], ◌∷◌, ◌++◌, length, take, drop, sym, refl, ap, ◌∙◌, arith, length-take-le, take_all, take-add}
 use lib.Seq.{take-length}
+use lib.Pointwise.{pointwise}
 use Rattle.le.specs.Le.{le, unle, Bytes}
 use Rattle.le.proofs.Fields.{field_back}
 use Rattle.lists.specs.Same.{same, same_bytes, same_bytes_refl, same_bytes_other}
@@ -13,21 +14,19 @@ same_before [] (y ∷ b) w l = absurd (omega arith)
 same_before (x ∷ a) [] w l = absurd (omega arith)
 same_before (x ∷ a) (y ∷ b) w l = ap (λ (t : Bool). cond (eqb x y) t false) (same_before a b w (omega arith))
 
+-- the library's test is the same
+pub bytes_pointwise : (a b : List ℕ) → pointwise eqb a b ≡ same_bytes a b
+unfolding same
+bytes_pointwise [] [] = refl
+bytes_pointwise [] (y ∷ b) = refl
+bytes_pointwise (x ∷ a) [] = refl
+bytes_pointwise (x ∷ a) (y ∷ b) = go (eqb x y) (bytes_pointwise a b)
+  where
+    go : (t : Bool) → pointwise eqb a b ≡ same_bytes a b → (t && pointwise eqb a b) ≡ cond t (same_bytes a b) false
+    go true h = h
+    go false h = refl
+
 module _ (a b : List ℕ) (i : ℕ) where
-  step : i < length a → i < length b → same_bytes (drop i a) (drop i b) ≡ cond (eqb (get_or a i 0) (get_or b i 0)) (same_bytes (drop (i + 1) a) (drop (i + 1) b)) false
-  unfolding same
-  step h k = rw (add-one, drop-cons a i 0 h, drop-cons b i 0 k)
-
-  pub bytes_next : i < length a → i < length b → get_or a i 0 ≡ get_or b i 0 → same_bytes a b ≡ same_bytes (drop i a) (drop i b) → same_bytes a b ≡ same_bytes (drop (i + 1) a) (drop (i + 1) b)
-  bytes_next h k e s = s ∙ step h k ∙ rw (eq-eqb _ _ e)
-
-  pub bytes_differ : i < length a → i < length b → (get_or a i 0 ≡ get_or b i 0 → ⊥) → same_bytes a b ≡ same_bytes (drop i a) (drop i b) → false ≡ same_bytes a b
-  bytes_differ h k e s = sym (s ∙ step h k ∙ rw (ne_eqb _ _ e))
-
-  pub bytes_end : length a ≤ i → length b ≤ i → same_bytes a b ≡ same_bytes (drop i a) (drop i b) → true ≡ same_bytes a b
-  unfolding same
-  bytes_end h k s = sym (s ∙ rw (drop_of_length-le a h, drop_of_length-le b k))
-
   pub words_differ : (unle (take 8 (drop i a)) ≡ unle (take 8 (drop i b)) → ⊥) → false ≡ same_bytes a b
   words_differ d = sym (same_bytes_other a b (λ e. d (ap (λ (l : List ℕ). unle (take 8 (drop i l))) e)))
 

@@ -1,6 +1,6 @@
 -- Contents of proofs/, beside a folder for each function: what its proofs cite, and laws that crates above cite.
 
--- Equality of bytes, at places: one byte on, and eight read as a number.
+-- Equality of bytes: as the library tests it, and eight of them read as a number.
 pub mod Bytes
 -- Laws of the walk from the front.
 pub mod Walks

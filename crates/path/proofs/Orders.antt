@@ -1,7 +1,8 @@
 -- Laws of the order of normal spellings, along a walk of both.
 use Rattle.std.specs.declared.cmp.Ordering.{Ordering}
 use Rattle.std.specs.declared.cmp.Ordering.TheVariants.{Equal, Greater, Less}
-use Rattle.std.proofs.Common.{◌≡◌, ℕ, ◌+◌, ◌-◌, ◌<◌, ◌≤◌, Bool, true, false, cond, not, eqb, ltb, ◌⊎◌, List, [], ◌∷◌, ◌++◌, length, get_or, take, drop, sym, refl, ap, ◌∙◌, subst, inl, inr, add-one, arith, drop_of_length-le, drop-cons, ltb-false, ltb-true, le-ltb, lt-ltb, eqb-true}
+use Rattle.std.proofs.Common.{◌≡◌, ℕ, ◌+◌, ◌-◌, ◌<◌, ◌≤◌, min, Bool, true, false, cond, not, eqb, ltb, ◌⊎◌, List, [], ◌∷◌, ◌++◌, length, get_or, take, drop, sym, refl, ap, ◌∙◌, subst, inl, inr, add-one, arith, drop_of_length-le, drop-cons, ltb-false, ltb-true, lt-ltb, eqb-true, ne_eqb}
+use Rattle.std.specs.Ordering.{nat_cmp}
 use mathlib.Core.Bool.{false≢true}
 use borrow.Author.Tests.{eqb-false}
 use Rattle.lists.specs.Same.{same_bytes, same_bytes_eq, same_bytes_refl}
@@ -26,27 +27,29 @@ module _ (m n : Bool) (a b : List ℕ) (i : ℕ) where
   unfolding name_order
   names_a_ends h k = rw (drop-cons b i 0 k, drop_of_length-le a h)
 
-  pub names_end : length a ≤ i → length b ≤ i → name_order m (drop i a) n (drop i b) ≡ Equal
+  names_end : length a ≤ i → length b ≤ i → name_order m (drop i a) n (drop i b) ≡ Equal
   unfolding name_order
   names_end h k = rw (drop_of_length-le b k, drop_of_length-le a h)
 
-  pub b_ends_less : i < length a → length b ≤ i → n ≡ true → get_or a i 0 < 47 → name_order m (drop i a) n (drop i b) ≡ Less
-  b_ends_less h k e l = names_b_ends h k ∙ rw (e, lt-ltb _ _ l)
+-- where the shorter of two names ends, as far as which they are alike
+module _ (m n : Bool) (a b : List ℕ) (i : ℕ) (z : i ≡ min (length a) (length b)) (v : name_order m a n b ≡ name_order m (drop i a) n (drop i b)) where
+  pub b_over : length b < length a → name_order m a n b ≡ cond n (cond (ltb (get_or a (length b) 0) 47) Less Greater) Greater
+  b_over h = let e : i ≡ length b = omega arith in (rw e at v) ∙ names_b_ends m n a b (length b) h (omega arith)
 
-  pub b_ends_slash : i < length a → length b ≤ i → n ≡ true → 47 ≤ get_or a i 0 → name_order m (drop i a) n (drop i b) ≡ Greater
-  b_ends_slash h k e l = names_b_ends h k ∙ rw (e, le-ltb _ _ l)
+  pub a_over : length a < length b → name_order m a n b ≡ cond m (cond (ltb 47 (get_or b (length a) 0)) Less Greater) Less
+  a_over h = let e : i ≡ length a = omega arith in (rw e at v) ∙ names_a_ends m n a b (length a) (omega arith) h
 
-  pub b_ends_greater : i < length a → length b ≤ i → n ≡ false → name_order m (drop i a) n (drop i b) ≡ Greater
-  b_ends_greater h k e = names_b_ends h k ∙ rw e
+  pub both_over : length a ≡ length b → name_order m a n b ≡ Equal
+  both_over h = v ∙ names_end m n a b i (omega arith) (omega arith)
 
-  pub a_ends_slash : length a ≤ i → i < length b → m ≡ true → get_or b i 0 ≤ 47 → name_order m (drop i a) n (drop i b) ≡ Greater
-  a_ends_slash h k e l = names_a_ends h k ∙ rw (e, le-ltb _ _ l)
-
-  pub a_ends_more : length a ≤ i → i < length b → m ≡ true → 47 < get_or b i 0 → name_order m (drop i a) n (drop i b) ≡ Less
-  a_ends_more h k e l = names_a_ends h k ∙ rw (e, lt-ltb _ _ l)
-
-  pub a_ends_less : length a ≤ i → i < length b → m ≡ false → name_order m (drop i a) n (drop i b) ≡ Less
-  a_ends_less h k e = names_a_ends h k ∙ rw e
+-- numbers, as the library compares them
+pub numbers_apart : (x y : ℕ) → (x ≡ y → ⊥) → (o : Ordering) → and_then (cmp_nat x y) o ≡ nat_cmp x y
+unfolding cmp_nat
+numbers_apart x y n o = go (ltb x y) refl
+  where
+    go : (t : Bool) → ltb x y ≡ t → and_then (cond t Less (cond (ltb y x) Greater Equal)) o ≡ cond t Less (cond (eqb x y) Equal Greater)
+    go true e = refl
+    go false e = let l = ltb-false x y e in rw (ne_eqb x y n, lt-ltb y x (omega arith))
 
 -- ---- names that differ
 

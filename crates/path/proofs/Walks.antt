@@ -1,22 +1,37 @@
 -- Laws of the walk from the front.
-use Rattle.std.proofs.Common.{◌≡◌, ℕ, suc, ◌+◌, ◌-◌, ◌<◌, ◌≤◌, Bool, true, false, cond, eqb, List, [], ◌∷◌, length, get_or, take, drop, sym, refl, ap, ◌∙◌, add-one, arith, length-drop, drop_of_length-le, length-take-le, drop-cons, drop-drop, le-ltb, lt-ltb, eq-eqb, ne_eqb}
+use Rattle.std.proofs.Common.{◌≡◌, ℕ, zero, suc, ◌+◌, ◌-◌, ◌<◌, ◌≤◌, Bool, true, false, cond, eqb, List, [], ◌∷◌, length, get_or, take, drop, sym, refl, ap, ◌∙◌, add-one, arith, length-drop, drop_of_length-le, length-take-le, drop-cons, drop-drop, le-ltb, lt-ltb, eq-eqb, ne_eqb, take_all}
 use Rattle.path.specs.Path.{idle, names, split, components, is_root}
 use Rattle.path.specs.Walk.{run, rest, left, found, Next, NextName}
 use Rattle.path.proofs.Parts.{rest_step, rest_slash, rest_nil, rest_named, components_step, formed, named_formed, Formed}
 
 -- ---- the run to the next slash
 
-pub run_slash : (l : List ℕ) (i : ℕ) → i < length l → get_or l i 0 ≡ 47 → run (drop i l) ≡ 0
-unfolding run
-run_slash l i h e = rw (drop-cons l i 0 h, eq-eqb _ _ e)
-
 pub run_other : (l : List ℕ) (i : ℕ) → i < length l → (get_or l i 0 ≡ 47 → ⊥) → run (drop i l) ≡ suc (run (drop (i + 1) l))
 unfolding run
 run_other l i h e = rw (add-one, drop-cons l i 0 h, ne_eqb _ _ e)
 
-pub run_end : (l : List ℕ) (i : ℕ) → length l ≤ i → run (drop i l) ≡ 0
+-- the run is known by what stands before its end and what stands there
+run_is : (t : List ℕ) (k : ℕ) → k ≤ length t → ((j : ℕ) → j < k → get_or t j 0 ≡ 47 → ⊥) → (k < length t → get_or t k 0 ≡ 47) → k ≡ run t
 unfolding run
-run_end l i h = rw (drop_of_length-le l h)
+run_is [] k h f g = omega arith
+run_is (b ∷ t) zero h f g = rw (eq-eqb b 47 (g (omega arith)))
+run_is (b ∷ t) (suc k) h f g = rw (ne_eqb b 47 (f 0 (omega arith))) (ap suc (run_is t k (omega arith) (λ j l. f (suc j) (omega arith)) (λ l. g (omega arith))))
+
+-- the same of what is left of a text, which was lent
+module _ (l : List ℕ) (i : ℕ) (h : i ≤ length l) where
+  abbrev lent : List ℕ
+  lent = take (length l - i) (drop i l)
+
+  same_rest : lent ≡ drop i l
+  same_rest = take_all (length l - i) (drop i l) (rw length-drop (omega arith))
+
+  pub run_none : ((j : ℕ) → j < length lent → get_or lent j 0 ≡ 47 → ⊥) → length l ≡ i + run (drop i l)
+  run_none f =
+      let e : length lent ≡ length l - i = ap length same_rest ∙ length-drop i l in
+      omega (arith, run_is lent (length lent) (omega arith) f (λ k. absurd (omega arith)) ∙ ap run same_rest)
+
+  pub run_some : (k : ℕ) → k < length lent → ((j : ℕ) → j < k → get_or lent j 0 ≡ 47 → ⊥) → get_or lent k 0 ≡ 47 → i + k ≡ i + run (drop i l)
+  run_some k n f g = ap (λ (m : ℕ). i + m) (run_is lent k (omega arith) f (λ m. g) ∙ ap run same_rest)
 
 -- a part that begins with another byte than a slash is not empty
 pub part_some : (l : List ℕ) (i e : ℕ) → i < length l → (get_or l i 0 ≡ 47 → ⊥) → e ≡ i + run (drop i l) → i < e

@@ -1,23 +1,15 @@
 -- Laws of writing the normal spelling into a buffer, component by component, and of its length.
 use Rattle.std.proofs.Common.{◌≡◌, ℕ, ◌+◌, ◌-◌, ◌<◌, ◌≤◌, Bool, true, false, not, eqb, List, [], ◌++◌, length, get_or, take, drop, set, sym, refl, ap, ◌∙◌, append_assoc, append-nil, add-one, arith, length-append, length-drop, length-take-le}
 use mathlib.Core.Bool.{false≢true}
-use lib.Seq.{paste, paste-suc, set_split, take-length}
+use Rattle.std.specs.Int.{from_bool}
+use lib.Seq.{set_split}
 use Rattle.le.specs.Le.{laid}
-use Rattle.le.proofs.Parts.{laid_nothing, length_laid, laid_laid}
+use Rattle.le.proofs.Parts.{mid_back, laid_nothing, length_laid, laid_laid}
 use Rattle.path.specs.Path.{slash, join, normal}
 use Rattle.path.specs.Walk.{left, Next}
 use Rattle.path.proofs.Walks.{next_none, next_some, root_at}
 
--- ---- a copy
-
-pub put_turn : (d d₀ s : List ℕ) (at j : ℕ) → d ≡ paste d₀ at s j → at + j < length d₀ → j < length s → set d (at + j) (get_or s j 0) ≡ paste d₀ at s (j + 1)
-put_turn d d₀ s at j e h k =
-    ap (λ (x : List ℕ). set x (at + j) (get_or s j 0)) e ∙ paste-suc d₀ at s j 0 h k ∙ ap (λ (n : ℕ). paste d₀ at s n) (sym (add-one j))
-
-pub put_all : (d d₀ s : List ℕ) (at j : ℕ) → d ≡ paste d₀ at s j → j ≡ length s → (d ≡ laid d₀ at s) × (at + j ≡ at + length s)
-unfolding laid
-put_all d d₀ s at j e h =
-    (e ∙ ap (λ (n : ℕ). paste d₀ at s n) h ∙ rw (take-length s) (append_assoc (take at d₀) s (drop (at + length s) d₀)), rw h)
+-- ---- a slash
 
 pub put_true : (d : List ℕ) (at : ℕ) (sep : Bool) → sep ≡ true → at < length d → (set d at 47 ≡ laid d at (slash sep)) × (at + 1 ≡ at + length (slash sep))
 unfolding laid slash
@@ -70,6 +62,9 @@ writing_all N d₀ d out w =
 
 -- ---- the normal spelling, along a walk
 
+length_part : (s : List ℕ) (a e : ℕ) → e ≤ length s → length (take (e - a) (drop a s)) ≡ e - a
+length_part s a e h = length-take-le (e - a) (drop a s) (omega (arith, length-drop a s))
+
 pub normal_start : (s d : List ℕ) → Writing (normal s) d d 0 (join false (left s 0))
 unfolding normal left
 normal_start s d = record { done = []; whole = refl; long = refl; stands = sym (laid_nothing d 0) }
@@ -79,18 +74,36 @@ module _ (s d₀ d : List ℕ) (out i a e : ℕ) (sep : Bool) (w : Writing (norm
   unfolding join
   normal_done q = writing_all (normal s) d₀ d out (rw (next_none s i a e n q) at w)
 
-  pub normal_turn : (a ≡ e → ⊥) → Writing (normal s) d₀ d out (slash sep ++ (take (e - a) (drop a s) ++ join (not (eqb (get_or s a 0) 47)) (left s e)))
+  normal_turn : (a ≡ e → ⊥) → Writing (normal s) d₀ d out (slash sep ++ (take (e - a) (drop a s) ++ join (not (eqb (get_or s a 0) 47)) (left s e)))
   unfolding join
   normal_turn q = rw (← root_at s a e (omega arith) (omega arith)) (rw (next_some s i a e n q) at w)
+
+  -- there is room for the slash, and then for the component
+  module _ (q : a ≡ e → ⊥) (fits : length (normal s) ≤ length d₀) where
+    pub slash_fits : out + length (slash sep) ≤ length d
+    slash_fits = writing_room (slash sep) _ (normal_turn q) fits
+
+    module _ (d' : List ℕ) (out' : ℕ) (p : (d' ≡ laid d out (slash sep)) × (out' ≡ out + length (slash sep))) where
+      abbrev part : List ℕ
+      part = take (e - a) (drop a s)
+
+      slashed : Writing (normal s) d₀ d' out' (part ++ join (not (eqb (get_or s a 0) 47)) (left s e))
+      slashed = writing_more (slash sep) _ (normal_turn q) fits d' out' p
+
+      pub part_fits : out' + (e - a) ≤ length d'
+      part_fits = omega (arith, length_part s a e n.inside, writing_room part _ slashed fits)
+
+      pub part_put : (ys l : List ℕ) → ys ≡ part → l ≡ take out' d' ++ (ys ++ drop (out' + (e - a) - out') (drop out' d'))
+          → Writing (normal s) d₀ l (out' + (e - a)) (join (not (eqb (get_or s a 0) 47)) (left s e))
+      part_put ys l f g =
+          let k = length_part s a e n.inside in
+          writing_more part _ slashed fits l (out' + (e - a)) (g ∙ rw f (mid_back out' (e - a) d' part k), omega (arith, k))
 
 -- ---- its length
 
 pub len_start : (s : List ℕ) → length (normal s) ≡ 0 + length (join false (left s 0))
 unfolding normal left
 len_start s = omega arith
-
-length_part : (s : List ℕ) (a e : ℕ) → e ≤ length s → length (take (e - a) (drop a s)) ≡ e - a
-length_part s a e h = length-take-le (e - a) (drop a s) (omega (arith, length-drop a s))
 
 module _ (s : List ℕ) (out i a e : ℕ) (sep : Bool) (w : length (normal s) ≡ out + length (join sep (left s i))) (n : Next s i a e) where
   pub len_done : a ≡ e → out ≡ length (normal s)
@@ -106,10 +119,7 @@ module _ (s : List ℕ) (out i a e : ℕ) (sep : Bool) (w : length (normal s) �
   pub len_turn : (a ≡ e → ⊥) → (k : ℕ) → k ≡ length (slash sep) → length (normal s) ≡ out + k + (e - a) + length (join (not (eqb (get_or s a 0) 47)) (left s e))
   len_turn q k z = omega (arith, len_step q)
 
-pub slash_one : (sep : Bool) → sep ≡ true → 1 ≡ length (slash sep)
+pub slash_one : (sep : Bool) → from_bool sep ≡ length (slash sep)
 unfolding slash
-slash_one sep e = rw e
-
-pub slash_none : (sep : Bool) → sep ≡ false → 0 ≡ length (slash sep)
-unfolding slash
-slash_none sep e = rw e
+slash_one true = refl
+slash_one false = refl

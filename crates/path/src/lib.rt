@@ -25,14 +25,10 @@ fn part_end(s: &[u8], i: usize) -> usize
     ensures ends { result ≡ i + run (drop i s.now) }
     ensures inside { result ≤ length s.now }
 {
-    let mut e = i;
-    while e < s.len() {
-        if s[e] == b'/' {
-            return e;
-        }
-        e += 1;
+    match s[i..].iter().position(|b| *b == b'/') {
+        None => s.len(),
+        Some(k) => i + k,
     }
-    e
 }
 
 // The next component from i on, where i is behind the path's first.
@@ -84,14 +80,10 @@ fn part_start(s: &[u8], e: usize) -> usize
     requires { e ≤ length s.now }
     ensures { Starts s.now e result }
 {
-    let mut a = e;
-    while 0 < a {
-        if s[a - 1] == b'/' {
-            return a;
-        }
-        a -= 1;
+    match s[..e].iter().rposition(|b| *b == b'/') {
+        None => 0,
+        Some(k) => k + 1,
     }
-    a
 }
 
 // The last component, found from the back.
@@ -122,22 +114,8 @@ fn last(s: &[u8]) -> Part
     Part { start: 0, stop: 0 }
 }
 
-// Whether a and b, of one length, hold the same bytes: a byte at a time.
-fn same_few(a: &[u8], b: &[u8]) -> bool
-    requires { length a.now ≡ length b.now }
-    ensures { result ≡ same_bytes a.now b.now }
-{
-    let mut i = 0;
-    while i < a.len() {
-        if a[i] != b[i] {
-            return false;
-        }
-        i += 1;
-    }
-    true
-}
-
-// Whether a and b hold the same bytes: eight at a time from the back, where paths of one folder differ, then the rest.
+// Whether a and b hold the same bytes: eight at a time from the back, where paths of one folder differ, then the rest. `a == b` would look
+// at them from the front, where they are alike.
 pub fn same_bytes(a: &[u8], b: &[u8]) -> bool
     ensures { result ≡ same_bytes a.now b.now }
 {
@@ -152,7 +130,7 @@ pub fn same_bytes(a: &[u8], b: &[u8]) -> bool
             return false;
         }
     }
-    same_few(&a[..i], &b[..i])
+    a[..i] == b[..i]
 }
 
 // Whether a and b spell the same path: `Path == Path`. Both are walked side by side from the back, where paths differ most often.
@@ -195,20 +173,6 @@ pub fn same_path(a: &[u8], b: &[u8]) -> bool
     same_walk(a, b)
 }
 
-// Copies src into dst from index at on, and returns the index behind it.
-fn put(dst: &mut [u8], at: usize, src: &[u8]) -> usize
-    requires { at + length src.now ≤ length dst.old }
-    ensures laid { dst.new ≡ laid dst.old at src.now }
-    ensures behind { result ≡ at + length src.now }
-{
-    let mut j = 0;
-    while j < src.len() {
-        dst[at + j] = src[j];
-        j += 1;
-    }
-    at + j
-}
-
 // Writes a slash at index at if sep says so, and returns the index behind it.
 fn put_slash(dst: &mut [u8], at: usize, sep: bool) -> usize
     requires { at + length (slash sep) ≤ length dst.old }
@@ -220,16 +184,6 @@ fn put_slash(dst: &mut [u8], at: usize, sep: bool) -> usize
         return at + 1;
     }
     at
-}
-
-// How many bytes a slash takes, if sep says that there is one.
-fn slash_len(sep: bool) -> usize
-    ensures { result ≡ length (slash sep) }
-{
-    if sep {
-        return 1;
-    }
-    0
 }
 
 // The length of the normal spelling.
@@ -246,8 +200,7 @@ pub fn normal_len(s: &[u8]) -> usize
         if a == e {
             return out;
         }
-        let n = slash_len(sep);
-        out = out + n + (e - a);
+        out += usize::from(sep) + (e - a);
         sep = s[a] != b'/';
         at = e;
     }
@@ -270,7 +223,9 @@ pub fn normalize(src: &[u8], dst: &mut [u8]) -> usize
             return out;
         }
         out = put_slash(dst, out, sep);
-        out = put(dst, out, &src[s..e]);
+        let n = e - s;
+        dst[out..out + n].copy_from_slice(&src[s..e]);
+        out += n;
         sep = src[s] != b'/';
         at = e;
     }
@@ -337,33 +292,24 @@ pub fn above(s: &[u8]) -> usize
 fn compare_names(a: &[u8], more_a: bool, b: &[u8], more_b: bool) -> Ordering
     ensures { result ≡ name_order more_a a.now more_b b.now }
 {
-    let mut i = 0;
-    while i < a.len() {
-        if b.len() <= i {
-            if more_b {
-                if a[i] < b'/' {
-                    return Ordering::Less;
-                }
-            }
-            return Ordering::Greater;
+    for (x, y) in a.iter().zip(b) {
+        if *x != *y {
+            return x.cmp(y);
         }
-        if a[i] < b[i] {
+    }
+    if b.len() < a.len() {
+        if more_b && a[b.len()] < b'/' {
             return Ordering::Less;
         }
-        if b[i] < a[i] {
+        return Ordering::Greater;
+    }
+    if a.len() < b.len() {
+        if more_a && b[a.len()] <= b'/' {
             return Ordering::Greater;
         }
-        i += 1;
+        return Ordering::Less;
     }
-    if b.len() <= i {
-        return Ordering::Equal;
-    }
-    if more_a {
-        if b[i] <= b'/' {
-            return Ordering::Greater;
-        }
-    }
-    Ordering::Less
+    Ordering::Equal
 }
 
 // The order of a listing, that of the bytes of both normal spellings, which are not written: the first components that differ decide.
@@ -448,11 +394,8 @@ pub fn is_normal(s: &[u8]) -> bool
         return true;
     }
     let mut bad = false;
-    let mut j = 0;
-    while j < n - 2 {
-        let idle = idle_slash(s[j], s[j + 1], s[j + 2]);
-        bad = bad | idle;
-        j += 1;
+    for j in 0..n - 2 {
+        bad |= idle_slash(s[j], s[j + 1], s[j + 2]);
     }
     let idle = idle_slash(s[n - 2], s[n - 1], b'/');
     !(bad | idle | (s[n - 1] == b'/'))

@@ -1,15 +1,16 @@
 -- The loops of the order: a half of what is left is set aside at each look, and each element goes to its place among those behind it.
 use Rattle.std.specs.declared.cmp.Ordering.{Ordering}
+use Rattle.std.specs.declared.cmp.Ordering.TheVariants.{Equal, Greater, Less}
+use Rattle.std.specs.Ordering.{is_lt}
 use Prim.Native.Nat.{ℕ, suc, ◌+◌, ◌-◌, ◌/◌, ◌%◌, ◌<◌, ◌≤◌}
 use native.Mathlib.Omega.{arith}
-use native.Mathlib.Numerals.{add-one}
 use native.Mathlib.Nat.{add-sub_cancel_left}
 use mathlib.Core.Path.{◌≡◌, refl, sym, ap, ◌∙◌}
 use mathlib.Core.Bool.{Bool, true, false}
 use mathlib.Core.List.{List, [], ◌∷◌, ◌++◌, append_assoc, append-nil}
-use lib.ListN.{length, get_or, take, drop, length-append, length-take, length-drop, drop_of_length-le}
+use lib.ListN.{length, get_or, take, drop, length-append, length-take, length-drop}
 use lib.Seq.{take_all, take-length, drop-length, take_at, drop_at, drop-cons, take-suc, get_or-drop, length-take-le}
-use Rattle.lists.specs.Sort.{insert, sort, is_less}
+use Rattle.lists.specs.Sort.{sort, is_less}
 use Rattle.path.specs.Path.{path_order}
 use Rattle.row_order.specs.Spans.{spelled, AllInside, span_before}
 use Rattle.row_order.specs.Risen.{Risen, Levels, place, place_is, place_few, risen_up, risen_sort, insert_place}
@@ -17,11 +18,17 @@ use Rattle.row_order.specs.InOrder.{before_levels, length_sorted, inside_get, in
 
 -- ---- one comparison
 
-pub way_told : (b : List ℕ) (x y : ℕ) (w v : Ordering)
+pub way_told : (b : List ℕ) (x y : ℕ) (w : Ordering) (r : Bool)
     → w ≡ path_order (take (x / 512 + x % 512 - x / 512) (drop (x / 512) b)) (take (y / 512 + y % 512 - y / 512) (drop (y / 512) b))
-    → w ≡ v → is_less v ≡ span_before b x y
+    → r ≡ is_lt w → r ≡ span_before b x y
 unfolding span_before spelled
-way_told b x y w v e h = rw (add-sub_cancel_left (x / 512) (x % 512), add-sub_cancel_left (y / 512) (y % 512)) at (ap is_less (sym h ∙ e))
+way_told b x y w r e h =
+    h ∙ less w ∙ (rw (add-sub_cancel_left (x / 512) (x % 512), add-sub_cancel_left (y / 512) (y % 512)) at (ap is_less e))
+  where
+    less : (v : Ordering) → is_lt v ≡ is_less v
+    less Less = refl
+    less Equal = refl
+    less Greater = refl
 
 -- ---- the place of x in s
 
@@ -79,10 +86,11 @@ module _ (b d₀ d : List ℕ) (i p : ℕ) (z : i ≡ suc p) (h : p < length d�
   front : length (take p d₀) ≡ p
   front = length-take-le p d₀ (omega arith)
 
+  behind_front : drop p d ≡ get_or d₀ p 0 ∷ rest
+  behind_front = ap (drop p) whole ∙ drop_at (take p d₀) (get_or d₀ p 0 ∷ rest) p front
+
   part_is : take (length d - p) (drop p d) ≡ get_or d₀ p 0 ∷ rest
-  part_is =
-      let w : drop p d ≡ get_or d₀ p 0 ∷ rest = ap (drop p) whole ∙ drop_at (take p d₀) (get_or d₀ p 0 ∷ rest) p front in
-      take_all (length d - p) (drop p d) (rw length-drop (omega arith)) ∙ w
+  part_is = take_all (length d - p) (drop p d) (rw length-drop (omega arith)) ∙ behind_front
 
   part_long : length (take (length d - p) (drop p d)) ≡ suc (length rest)
   part_long = ap length part_is
@@ -102,16 +110,16 @@ module _ (b d₀ d : List ℕ) (i p : ℕ) (z : i ≡ suc p) (h : p < length d�
     placed : k ≡ place (span_before b) (get_or d₀ p 0) rest
     placed = rw part_is at g
 
-    pub place_fits : k < length (take (length d - p) (drop p d))
-    place_fits = omega (arith, part_long, placed, place_few (span_before b) (get_or d₀ p 0) rest)
+    pub place_fits : p + k + 1 ≤ length d
+    place_fits = omega (arith, ap length behind_front, length-drop p d, placed, place_few (span_before b) (get_or d₀ p 0) rest)
 
-    -- and with the element in its place one more is sorted
-    pub sort_turn : (ys l : List ℕ) → ys ≡ take k (drop 1 (take (length d - p) (drop p d))) ++ (get_or (take (length d - p) (drop p d)) 0 0 ∷ drop (k + 1) (take (length d - p) (drop p d)))
-        → l ≡ take p d ++ (ys ++ drop (length d - p) (drop p d)) → l ≡ take p d₀ ++ sort (span_before b) (drop p d₀)
+    -- and with the element behind those that come before it one more is sorted
+    pub sort_turn : (ys l : List ℕ) → ys ≡ drop 1 (take (p + k + 1 - p) (drop p d)) ++ take 1 (take (p + k + 1 - p) (drop p d))
+        → l ≡ take p d ++ (ys ++ drop (p + k + 1 - p) (drop p d)) → l ≡ take p d₀ ++ sort (span_before b) (drop p d₀)
     unfolding sort
     sort_turn ys l f w =
         let x = get_or d₀ p 0 in
-        let y : ys ≡ insert (span_before b) x rest = (rw (part_is, add-one) at f) ∙ rw placed (sym (insert_place (span_before b) x rest)) in
+        let n : p + k + 1 - p ≡ suc k = omega arith in
+        let y : ys ≡ take k rest ++ x ∷ [] = rw (n, behind_front) at f in
         let t : take p d ≡ take p d₀ = ap (take p) whole ∙ take_at (take p d₀) (x ∷ rest) p front in
-        let n : drop (length d - p) (drop p d) ≡ [] = drop_of_length-le (drop p d) {i = length d - p} (rw length-drop (omega arith)) in
-        w ∙ rw (t, n, append-nil, y, drop-cons d₀ p 0 h)
+        w ∙ rw (t, y, n, behind_front, append_assoc, placed, drop-cons d₀ p 0 h) (ap (λ (r : List ℕ). take p d₀ ++ r) (sym (insert_place (span_before b) x rest)))

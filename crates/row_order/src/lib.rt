@@ -3,7 +3,7 @@
 // refused.
 #![tactic(auto)]
 
-ghost use Rattle.std.specs.Prelude.{◌≡◌, ◌∷◌, ◌++◌, ◌+◌, ◌*◌, ◌^◌, ◌≤◌, ◌<◌, length, get_or, take, drop};
+ghost use Rattle.std.specs.Prelude.{◌≡◌, ◌+◌, ◌*◌, ◌^◌, ◌≤◌, ◌<◌, length, get_or, drop};
 ghost use Rattle.std.proofs.lemmas.List.Edits.{sets};
 ghost use Rattle.limits.specs.Limits.{dir_width};
 ghost use Rattle.lists.specs.Sort.{sort};
@@ -13,7 +13,6 @@ ghost use Rattle.row_order.specs.Spans.{span, span_before, SpanInside, AllInside
 ghost use Rattle.row_order.specs.Risen.{Risen, place};
 
 use limits::{DIR_WIDTH, MAX_PATH};
-use std::cmp::Ordering;
 
 // The part of a buffer that starts at a place and has a length, as one number.
 pub fn span(start: usize, len: usize) -> u32
@@ -32,16 +31,11 @@ fn comes_before(bytes: &[u8], x: u32, y: u32) -> bool
     let m = (x % 512) as usize;
     let b = (y / 512) as usize;
     let n = (y % 512) as usize;
-    let way = path::compare(&bytes[a..a + m], &bytes[b..b + n]);
-    match way {
-        Ordering::Less => true,
-        Ordering::Equal => false,
-        Ordering::Greater => false,
-    }
+    path::compare(&bytes[a..a + m], &bytes[b..b + n]).is_lt()
 }
 
 // How many of the parts behind the first come before it or are level with it: they are in order, so a half of them is set aside at each
-// look.
+// look. `partition_point` would ask that any part can be compared, and only those that lie inside can.
 fn place_of(bytes: &[u8], spans: &[u32]) -> usize
     requires { AllInside bytes.now spans.now × (0 < length spans.now) × Risen (span_before bytes.now) (drop 1 spans.now) }
     ensures { result ≡ place (span_before bytes.now) (get_or spans.now 0 0) (drop 1 spans.now) }
@@ -60,31 +54,14 @@ fn place_of(bytes: &[u8], spans: &[u32]) -> usize
     low
 }
 
-// The first moves behind the k that follow it.
-fn move_first(spans: &mut [u32], k: usize)
-    requires { k < length spans.old }
-    ensures { spans.new
-        ≡ take k (drop 1 spans.old) ++ (get_or spans.old 0 0 ∷ drop (k + 1) spans.old) }
-{
-    let x = spans[0];
-    let mut j = 0;
-    while j < k {
-        spans[j] = spans[j + 1];
-        j += 1;
-    }
-    spans[k] = x;
-}
-
 // Puts the parts in order, from the last to the first: each goes to its place among those behind it.
 pub fn sort(bytes: &[u8], spans: &mut [u32])
     requires { AllInside bytes.now spans.old }
     ensures { spans.new ≡ sort (span_before bytes.now) spans.old }
 {
-    let mut i = spans.len();
-    while 0 < i {
-        i -= 1;
+    for i in (0..spans.len()).rev() {
         let k = place_of(bytes, &spans[i..]);
-        move_first(&mut spans[i..], k);
+        spans[i..i + k + 1].rotate_left(1);
     }
 }
 
@@ -122,12 +99,9 @@ pub fn all_files(nums: &[u64], names: &[u8], cap: usize, n: usize, spans: &mut [
         × (spans.new ≡ sets spans.old 0 (file_spans (rows_of nums.now names.now n))) }
 {
     let mut count = 0;
-    let mut i = 0;
-    while i < n {
-        let at = i;
-        i += 1;
-        if slot_rows::is_bound(nums, names, cap, n, at) {
-            spans[count] = file_span(nums, names, cap, n, at);
+    for i in 0..n {
+        if slot_rows::is_bound(nums, names, cap, n, i) {
+            spans[count] = file_span(nums, names, cap, n, i);
             count += 1;
         }
     }
@@ -139,9 +113,7 @@ pub fn all_dirs(dirs: &[u8], m: usize, spans: &mut [u32])
     requires { (m * dir_width ≤ length dirs.now) × (m ≤ 256) × (m ≤ length spans.old) }
     ensures { spans.new ≡ sets spans.old 0 (dir_spans (dirs_of dirs.now m)) }
 {
-    let mut j = 0;
-    while j < m {
+    for j in 0..m {
         spans[j] = dir_span(dirs, m, j);
-        j += 1;
     }
 }

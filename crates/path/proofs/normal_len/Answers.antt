@@ -1,7 +1,7 @@
 -- The invariant: what is counted and what is left to join are the whole. `len_turn` counts one component.
-use Rattle.std.proofs.Common.{arith}
+use Rattle.std.proofs.Common.{◌∙◌, arith}
 use Rattle.path.proofs.Theorems.{normal_short}
-use Rattle.path.proofs.Writes.{len_start, len_done, len_turn}
+use Rattle.path.proofs.Writes.{len_start, len_done, len_turn, slash_one}
 use Rattle.path.proofs.normal_len.Goals as goal
 
 pub loop-at-init : goal.loop-at-init
@@ -12,20 +12,12 @@ pub returns-then-a-e : goal.returns-then-a-e
 returns-then-a-e c =
     len_done _ _ _ _ _ _ c.loop-at.invariant.1 c.next-p.ensures c.if-a-e.true
 
-pub overflow_add-out : goal.overflow_add-out
-overflow_add-out c =
-    let args = c.args in
-    let loop = c.loop-at in
-    omega (arith, normal_short args.s.now, len_turn _ _ _ _ _ _ loop.invariant.1 c.next-p.ensures c.if-a-e.false _ c.slash_len-n.ensures)
-
 pub overflow_add-out-in-loop-at : goal.overflow_add-out-in-loop-at
 overflow_add-out-in-loop-at c =
-    let args = c.args in
     let loop = c.loop-at in
-    omega (arith, normal_short args.s.now, len_turn _ _ _ _ _ _ loop.invariant.1 c.next-p.ensures c.if-a-e.false _ c.slash_len-n.ensures)
+    omega (arith, normal_short c.args.s.now, len_turn _ _ _ _ _ _ loop.invariant.1 c.next-p.ensures c.if-a-e.false _ (c.from.ensures ∙ slash_one loop.sep))
 
 pub loop-at-preserved : goal.loop-at-preserved
 loop-at-preserved c =
     let loop = c.loop-at in
-    let next = c.next-p in
-    (omega arith, len_turn _ _ _ _ _ _ loop.invariant.1 next.ensures c.if-a-e.false _ c.slash_len-n.ensures)
+    (omega arith, omega (arith, len_turn _ _ _ _ _ _ loop.invariant.1 c.next-p.ensures c.if-a-e.false _ (c.from.ensures ∙ slash_one loop.sep)))

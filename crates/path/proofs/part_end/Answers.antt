@@ -1,16 +1,13 @@
--- The invariant: from `e` on as many bytes stand before the next slash as are left of the run from `i`.
-use Rattle.std.proofs.Common.{arith}
-use Rattle.path.proofs.Walks.{run_slash, run_other, run_end}
+-- By `run_none` and `run_some`: the run ends at the first slash of what was lent.
+use Rattle.std.proofs.Common.{rules}
+use Rattle.std.proofs.iter.runs.Made.{chains}
+use Rattle.path.proofs.Walks.{run_none, run_some}
 use Rattle.path.proofs.part_end.Goals as goal
 
-pub returns-then-s-e-eq47 : goal.returns-then-s-e-eq47
-returns-then-s-e-eq47 c =
-    record { ends = omega (arith, run_slash c.args.s.now c.loop-e.e (omega arith) c.if-s-e-eq47.true); inside = omega (arith, run_slash c.args.s.now c.loop-e.e (omega arith) c.if-s-e-eq47.true) }
+pub returns-in-None-clause-ends : goal.returns-in-None-clause-ends
+returns-in-None-clause-ends c =
+    run_none c.args.s.now c.args.i c.requires (search (rules, chains))
 
-pub loop-e-preserved : goal.loop-e-preserved
-loop-e-preserved c =
-    omega (arith, run_other c.args.s.now c.loop-e.e (omega arith) c.if-s-e-eq47.false)
-
-pub returns : goal.returns
-returns c =
-    record { ends = omega (arith, run_end c.args.s.now c.loop-e.e (omega arith)); inside = omega (arith, run_end c.args.s.now c.loop-e.e (omega arith)) }
+pub returns-in-Some-clause-ends : goal.returns-in-Some-clause-ends
+returns-in-Some-clause-ends c =
+    run_some c.args.s.now c.args.i c.requires c.in-Some.k (search (rules, chains)) (search (rules, chains)) (search (rules, chains))

@@ -1,8 +1,8 @@
 -- The invariant: the answer is that for what stands before `i` in both. `words_next` passes eight bytes.
-use Rattle.std.proofs.Common.{◌-◌, eqb, sym, ◌∙◌, arith, length-take-le}
+use Rattle.std.proofs.Common.{◌-◌, eqb, sym, ◌∙◌, arith}
 use Rattle.le.specs.Le.{Bytes}
 use Rattle.lists.specs.Same.{same_length}
-use Rattle.path.proofs.Bytes.{words_start, words_next, words_differ}
+use Rattle.path.proofs.Bytes.{bytes_pointwise, words_start, words_next, words_differ}
 use Rattle.path.proofs.same_bytes.Goals as goal
 
 pub returns-then-n-b : goal.returns-then-n-b
@@ -35,28 +35,14 @@ loop-i-preserved c =
     let loop = c.loop-i in
     let a = args.a.now in
     let b = args.b.now in
-    let ba : Bytes a = λ j. omega (arith, c.shared_slice_known-1.given j) in
-    let bb : Bytes b = λ j. omega (arith, c.shared_slice_known-2-1.given j) in (
+    let ba : Bytes a = λ j. omega (arith, c.type_inv.a j) in
+    let bb : Bytes b = λ j. omega (arith, c.type_inv.b j) in (
       omega arith,
       words_next a b (loop.i - 8) loop.i ba bb (omega arith) (omega arith)
           c.if-n-b.false
           (sym c.get_at.ensures ∙ (c.if-get_at.false ∙ c.get_at-in-loop-i.ensures)) loop.invariant.1,
     )
 
-pub slice_bounds-same_few-end : goal.slice_bounds-same_few-end
-slice_bounds-same_few-end c =
-    sym (length-take-le c.loop-i.i c.args.a.now (omega arith))
-
-pub slice_bounds-same_few-end-2 : goal.slice_bounds-same_few-end-2
-slice_bounds-same_few-end-2 c =
-    sym (length-take-le c.loop-i.i c.args.b.now (omega arith))
-
-pub same_few-requires : goal.same_few-requires
-same_few-requires c =
-    let args = c.args in
-    let i = c.loop-i.i in
-    length-take-le i args.a.now (omega arith) ∙ sym (length-take-le i args.b.now (omega arith))
-
 pub returns : goal.returns
 returns c =
-    c.same_few.ensures ∙ sym c.loop-i.invariant.1
+    c.eq.ensures ∙ bytes_pointwise _ _ ∙ sym c.loop-i.invariant.1

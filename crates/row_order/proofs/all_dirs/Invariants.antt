@@ -1,5 +1,5 @@
 -- The invariant `Picking`, where every row is picked.
-use Prim.Native.Nat.{ℕ, ◌-◌}
+use Prim.Native.Nat.{ℕ}
 use mathlib.Core.Bool.{true}
 use Rattle.dir_rows.specs.Rows.{dirs_of}
 use Rattle.row_order.specs.Spans.{dir_span}
@@ -8,6 +8,3 @@ use Rattle.row_order.proofs.all_dirs.Given as goal
 
 abbrev pub invariant-loop-j : goal.invariant-loop-j
 invariant-loop-j l = Picking (dir_span (dirs_of l.dirs l.m)) (λ (j : ℕ). true) l.m l.initial.spans l.j l.j l.spans
-
-abbrev pub decreases-loop-j : goal.decreases-loop-j
-decreases-loop-j l = l.m - l.j

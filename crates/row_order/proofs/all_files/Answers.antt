@@ -3,6 +3,7 @@ use mathlib.Core.Path.{sym, ◌∙◌}
 use Rattle.row_order.specs.Picks.{picking_start, picking_yes, picking_no, picking_end, file_spans_lem}
 use native.Mathlib.Omega.{arith}
 use Rattle.row_order.proofs.all_files.Goals as goal
+use Rattle.row_order.proofs.all_files.Goals.{then-is_bound, else-is_bound}
 
 pub loop-i-init : goal.loop-i-init
 loop-i-init c =
@@ -28,13 +29,12 @@ pub overflow_add-count : goal.overflow_add-count
 overflow_add-count c =
     omega (arith, c.loop-i.invariant.few, c.loop-i.invariant.long)
 
-pub loop-i-preserved-then-is_bound : goal.loop-i-preserved-then-is_bound
-loop-i-preserved-then-is_bound c =
-    picking_yes _ _ _ _ _ _ _ c.loop-i.invariant c.loop-i-test.true _ (sym c.is_bound.ensures ∙ c.if-is_bound.true) c.file_span.ensures
-
 pub loop-i-preserved : goal.loop-i-preserved
 loop-i-preserved c =
-    picking_no _ _ _ _ _ _ _ c.loop-i.invariant c.loop-i-test.true (sym c.is_bound.ensures ∙ c.if-is_bound.false)
+    elim c.if-is_bound.branch [
+      | then-is_bound w ↦ rw (w.spans-is, w.count-is) (picking_yes _ _ _ _ _ _ _ c.loop-i.invariant c.loop-i-test.true _ (sym c.is_bound.ensures ∙ w.if-is_bound.true) w.file_span.ensures)
+      | else-is_bound w ↦ rw (w.spans-is, w.count-is) (picking_no _ _ _ _ _ _ _ c.loop-i.invariant c.loop-i-test.true (sym c.is_bound.ensures ∙ w.if-is_bound.false))
+    ]
 
 pub returns : goal.returns
 returns c =
