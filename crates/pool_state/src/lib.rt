@@ -3,7 +3,7 @@
 // room, a free slot, or a generation left.
 #![tactic(auto)]
 
-ghost use Rattle.std.specs.Prelude.{◌≡◌, ◌^◌, ◌<◌};
+ghost use Rattle.std.specs.Prelude.{◌≡◌, ◌<◌};
 ghost use Rattle.limits.specs.Limits.{last_counter};
 ghost use Rattle.pool_state.specs.State.{choosing};
 ghost use Rattle.pool_state.specs.Queue.{pushed, popped, ticked};
