@@ -1,5 +1,5 @@
 -- The slot that leaves the queue, in the record and in the buffers: which one it is, and the state without it.
-use Rattle.std.specs.Prelude.{ℕ, ◌-◌, ◌≤◌, ◌<◌, ◌≡◌, List, drop, get_or}
+use Rattle.std.specs.Prelude.{◌-◌, ◌≤◌, ◌<◌, ◌≡◌, drop, get_or}
 use Rattle.std.proofs.Math.Path.{ap}
 use Rattle.std.proofs.Math.ListN.{length, length-drop}
 use Rattle.lists.specs.Blocks.{get_or_pad}

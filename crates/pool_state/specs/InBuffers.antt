@@ -4,10 +4,10 @@ use Rattle.std.proofs.Common.{sym, ap₂, ◌∙◌, subst, append_assoc, arith,
 use Rattle.std.proofs.Math.Path.{ap}
 use Rattle.std.proofs.Math.Logic.{⊎_elim}
 use mathlib.Core.List.Memᴰ
-use Rattle.std.proofs.Math.ListN.{length, length-append, length-drop}
+use Rattle.std.proofs.Math.ListN.{length, length-append}
 use Rattle.std.proofs.lemmas.List.{replicate-append-replicate, take-append-le}
 use Rattle.limits.specs.Limits.{last_counter}
-use Rattle.lists.specs.Blocks.{pad, pad_fits, take_pad, get_or_pad, snoc_pad}
+use Rattle.lists.specs.Blocks.{pad, pad_fits, take_pad, snoc_pad}
 use Rattle.lists.specs.Distinct.{In, Distinct, snoc_in, distinct_snoc, distinct_below}
 use Rattle.lists.specs.Distinct.Distinct.{none, more}
 use Rattle.slot_rows.specs.Rows.{at, is_bound, rows_of, flat_nums, flat_names, Flat}

@@ -3,10 +3,10 @@
 // room, a free slot, or a generation left.
 #![tactic(auto)]
 
-ghost use Rattle.std.specs.Prelude.{◌≡◌, ◌^◌, ◌<◌};
+ghost use Rattle.std.specs.Prelude.{◌≡◌, ◌<◌};
 ghost use Rattle.limits.specs.Limits.{last_counter};
 ghost use Rattle.pool_state.specs.State.{choosing};
-ghost use Rattle.pool_state.specs.Queue.{pushed, shifted, popped, ticked};
+ghost use Rattle.pool_state.specs.Queue.{pushed, popped, ticked};
 
 // What was chosen at mount: how many slot rows and how many directory rows are lent.
 #[derive(Clone, Copy)]
@@ -45,6 +45,7 @@ pub struct Popped {
 }
 
 // The slot joins the queue's end.
+#[tactic(auto, unfolding(crate::specs::Queue::pushed))]
 pub fn push_free(pool: Pool, slot: usize) -> Pool
     requires { (pool.free < 64) × (slot < 64) }
     ensures { result ≡ pushed slot pool }
@@ -56,38 +57,23 @@ pub fn push_free(pool: Pool, slot: usize) -> Pool
     r
 }
 
-// The cells moved left by one, the last zero.
-fn shift(queue: [u8; 64]) -> [u8; 64]
-    ensures { result ≡ shifted queue }
-{
-    let mut q = queue;
-    let mut i = 0;
-    while i < 63 {
-        q[i] = q[i + 1];
-        i += 1;
-    }
-    q[63] = 0;
-    q
-}
-
 // The first of the queue leaves it.
 pub fn pop_free(pool: Pool) -> Popped
     requires { 0 < pool.free }
     ensures { result ≡ popped pool }
 {
-    let q = pool.queue;
-    let slot = q[0] as usize;
-    let left = shift(q);
     let mut r = pool;
-    r.queue = left;
+    r.queue.rotate_left(1);
+    r.queue[63] = 0;
     r.free = pool.free - 1;
     Popped {
-        slot: slot,
+        slot: pool.queue[0] as usize,
         pool: r,
     }
 }
 
 // The counter's generation is spent: it is the caller's, who has read it from the record.
+#[tactic(auto, unfolding(crate::specs::Queue::ticked))]
 pub fn next_generation(pool: Pool) -> Pool
     requires { pool.counter < last_counter }
     ensures { result ≡ ticked pool }

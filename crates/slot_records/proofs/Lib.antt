@@ -2,5 +2,5 @@
 
 -- What the loops do: what is written so far, with what is left laid over the rest, is the whole.
 pub mod Turns
--- What the loops between numbers and 66 records do: what is written so far, with what is left laid over the rest, is the whole.
+-- Whole rows of numbers and 66 records: the records that are stored from the numbers, and the numbers that are loaded from the records.
 pub mod Spread

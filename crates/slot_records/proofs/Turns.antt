@@ -1,15 +1,15 @@
 -- What the loops do: what is written so far, with what is left laid over the rest, is the whole.
 use mathlib.Core.Path.{◌≡◌, sym, ap, ◌∙◌}
 use mathlib.Core.List.{List, [], ◌++◌, append-nil}
-use Prim.Native.Nat.{ℕ, suc, ◌+◌, ◌-◌, ◌*◌, ◌≤◌, ◌<◌}
+use Prim.Native.Nat.{ℕ, suc, ◌+◌, ◌*◌, ◌≤◌, ◌<◌}
 use native.Mathlib.Numerals.{add-one}
 use native.Mathlib.Omega.{arith}
-use lib.ListN.{length, set, take, drop, replicate, drop_of_length-le, length-replicate}
+use lib.ListN.{length, set, take, drop, drop_of_length-le}
 use lib.Seq.{sets, sets-eq, drop-cons, length-take-le, get_or-take}
 use Rattle.limits.specs.Limits.{row_width}
 use Rattle.lists.specs.Blocks.{cat, sets_append}
 use Rattle.slot_records.specs.declared.Slot.{Slot}
-use Rattle.slot_records.specs.Records.{none, slot_at, slot_nums, nums_of, slot_in, slots_of, loaded, stored, cleared}
+use Rattle.slot_records.specs.Records.{none, slot_at, slot_nums, nums_of, slot_in, slots_of, loaded, stored}
 use Rattle.slot_records.specs.SameNumbers.{length_nums, length_slots, slot_next}
 
 -- ---- from records to numbers
@@ -68,25 +68,3 @@ store_end s rs i l h n w =
     let y : length (front s rs) ≡ length rs * row_width = length-take-le (length rs * row_width) s h in
     let d : drop (i * row_width) (front s rs) ≡ [] = drop_of_length-le (front s rs) {i = i * row_width} (omega arith) in
     ap (λ (x : List ℕ). sets l i (slots_of x)) (sym d) ∙ w
-
--- ---- zero rows
-
-abbrev pub Clearing : ℕ → List Slot → ℕ → List Slot → Type 0
-Clearing n rs i l = sets l i (replicate (n - i) none) ≡ cleared n rs
-
-pub clear_start : (n : ℕ) (rs : List Slot) → n ≤ length rs → Clearing n rs 0 rs
-unfolding cleared
-clear_start n rs h =
-    let z : n - 0 ≡ n = omega arith in
-    let k : 0 + length (replicate n none) ≡ n = simp length-replicate (omega arith) in
-    rw z (sets-eq (replicate n none) rs 0 (omega arith) ∙ ap (λ (x : ℕ). replicate n none ++ drop x rs) k)
-
-pub clear_turn : (n : ℕ) (rs : List Slot) (i : ℕ) (l m : List Slot) (r : Slot) → i < n → r ≡ none → m ≡ set l i r → Clearing n rs i l → Clearing n rs (i + 1) m
-clear_turn n rs i l m r h f e w =
-    let k : n - i ≡ suc (n - (i + 1)) = omega arith in
-    rw (e, f, add-one i) (rw (k, add-one i) at w)
-
-pub clear_end : (n : ℕ) (rs : List Slot) (i : ℕ) (l : List Slot) → n ≤ i → Clearing n rs i l → l ≡ cleared n rs
-clear_end n rs i l h w =
-    let k : n - i ≡ 0 = omega arith in
-    rw k at w

@@ -1,10 +1,10 @@
 // The slot rows as "a lent run of records, one row a slot": pool.rs's `Slot` but for its path, whose bytes stay beside the run, so that a
-// row is read without copying 480 of them. `get` and `set` touch one row, and no other function touches one: through them the flat numbers
-// that crate slot_rows works on are loaded from the records, and stored back. Nothing is refused: an index is within the run, and a buffer
-// has room for four numbers a row.
+// row is read without copying 480 of them. `get` and `set` touch one row; `load` and `store` go over all of them, between the records and
+// the flat numbers that crate slot_rows works on. Nothing is refused: an index is within the run, and a buffer has room for four numbers a
+// row.
 #![tactic(auto)]
 
-ghost use Rattle.std.specs.Prelude.{◌≡◌, true, ◌+◌, ◌*◌, ◌/◌, ◌≤◌, ◌<◌, length, set, take, replicate};
+ghost use Rattle.std.specs.Prelude.{◌≡◌, true, ◌+◌, ◌*◌, ◌/◌, ◌≤◌, ◌<◌, length, set, take};
 ghost use Rattle.limits.specs.Limits.{row_width};
 ghost use Rattle.slot_records.specs.Records.{none, slot_at, nums_of, slot_in, loaded, stored, flat_of, cleared};
 ghost use Rattle.slot_records.specs.Whole.{whole_rows, spread_of};
@@ -45,11 +45,8 @@ pub fn load(rows: &[Slot], nums: &mut [u64])
     requires { length rows.now * row_width ≤ length nums.old }
     ensures { nums.new ≡ loaded rows.now nums.old }
 {
-    let mut i: usize = 0;
-    while i < rows.len() {
-        let slot = get(rows, i);
+    for (i, slot) in rows.iter().enumerate() {
         slot_rows::put_nums(nums, i, slot.mark, slot.path_len, slot.len, slot.generation);
-        i += 1;
     }
 }
 
@@ -58,11 +55,8 @@ pub fn store(rows: &mut [Slot], nums: &[u64])
     requires { length rows.old * row_width ≤ length nums.now }
     ensures { rows.new ≡ stored nums.now rows.old }
 {
-    let mut i: usize = 0;
-    while i < rows.len() {
-        let slot = from_nums(nums, i);
-        set(rows, i, slot);
-        i += 1;
+    for (i, slot) in rows.iter_mut().enumerate() {
+        *slot = from_nums(nums, i);
     }
 }
 
@@ -71,7 +65,7 @@ pub fn flat(rows: &[Slot]) -> [u64; 256]
     requires { length rows.now ≤ 64 }
     ensures { result ≡ flat_of rows.now }
 {
-    let mut nums = zeros();
+    let mut nums = [0; 256];
     load(rows, &mut nums);
     nums
 }
@@ -89,12 +83,7 @@ pub fn clear(rows: &mut [Slot], n: usize)
     requires { n ≤ length rows.old }
     ensures { rows.new ≡ cleared n rows.old }
 {
-    let mut i: usize = 0;
-    while i < n {
-        let slot = no_row();
-        set(rows, i, slot);
-        i += 1;
-    }
+    rows[..n].fill(no_row());
 }
 
 // A row that is zero.
@@ -112,6 +101,7 @@ fn no_row() -> Slot
 // ---- numbers that come as records
 
 // Whether numbers are whole rows, at most 66 of them.
+#[tactic(auto, unfolding(crate::specs::Whole::whole_rows))]
 pub fn whole_rows(nums: &[u64]) -> bool
     ensures { result ≡ whole_rows nums.now }
 {
@@ -123,52 +113,31 @@ pub fn whole_rows(nums: &[u64]) -> bool
 }
 
 // The records of whole rows of numbers, in front of zero ones.
+#[tactic(auto, using(crate::specs::Whole::whole_rows_lem))]
 pub fn rows_of(nums: &[u64]) -> [Slot; 66]
     requires { whole_rows nums.now ≡ true }
     ensures { result ≡ spread_of nums.now }
 {
-    let mut rows = no_rows();
+    let mut rows = [no_row(); 66];
     let n = nums.len() / ROW_WIDTH;
-    let mut i: usize = 0;
-    while i < n {
-        rows[i] = from_nums(nums, i);
-        i += 1;
-    }
+    store(&mut rows[..n], nums);
     rows
 }
 
 // Makes whole rows of numbers those of the records at the front of an array.
+#[tactic(auto, using(crate::specs::Whole::whole_rows_lem))]
 pub fn put_rows(nums: &mut [u64], rows: [Slot; 66])
     requires { whole_rows nums.old ≡ true }
     ensures { nums.new ≡ nums_of (take (length nums.old / row_width) rows) }
 {
     let n = nums.len() / ROW_WIDTH;
-    let mut i: usize = 0;
-    while i < n {
-        let slot = rows[i];
-        slot_rows::put_nums(nums, i, slot.mark, slot.path_len, slot.len, slot.generation);
-        i += 1;
-    }
-}
-
-// Rows that are zero.
-fn no_rows() -> [Slot; 66]
-    ensures { result ≡ replicate 66 none }
-{
-    let slot = no_row();
-    [slot; 66]
+    load(&rows[..n], nums);
 }
 
 // ---- parts
 
-// The numbers of no row.
-fn zeros() -> [u64; 256]
-    ensures { result ≡ replicate 256 0 }
-{
-    [0; 256]
-}
-
 // The row of the four numbers of row i.
+#[tactic(auto, unfolding(crate::specs::Records::slot_in))]
 fn from_nums(nums: &[u64], i: usize) -> Slot
     requires { i * row_width + row_width ≤ length nums.now }
     ensures { result ≡ slot_in nums.now i }

@@ -1,10 +1,6 @@
 -- Carried by `store_turn`: the rows that are still to come, laid over the rest, make the whole of it.
-use Rattle.std.proofs.Common.{◌-◌, ◌≤◌, length}
 use Rattle.slot_records.proofs.Turns.{Storing}
 use Rattle.slot_records.proofs.store.Given as goal
 
 abbrev pub invariant-loop-i : goal.invariant-loop-i
-invariant-loop-i l = (l.i ≤ length l.initial.rows) × Storing l.nums l.initial.rows l.i l.rows
-
-abbrev pub decreases-loop-i : goal.decreases-loop-i
-decreases-loop-i l = length l.initial.rows - l.i
+invariant-loop-i l = Storing l.nums l.initial.rows l.i l.rows
