@@ -129,14 +129,6 @@ fn bare_ok(m: u64, k: u64, n: u64) -> bool
     n == 0
 }
 
-// Whether each of the first n slot rows is.
-fn rows_fit(nums: &[u64], names: &[u8], n: usize) -> bool
-    requires { (n * row_width ≤ length nums.now) × (n * max_path ≤ length names.now) }
-    ensures { result ≡ all_of (row_fits nums.now names.now) 0 n }
-{
-    (0..n).all(|i| row_fits(nums, names, i))
-}
-
 // Whether directory row j is the form of a directory.
 fn dir_fits(dirs: &[u8], j: usize) -> bool
     requires { j * dir_width + dir_width ≤ length dirs.now }
@@ -150,26 +142,17 @@ fn dir_fits(dirs: &[u8], j: usize) -> bool
     text::greatest(&dirs[at + 2 + k as usize..at + DIR_WIDTH]) == 0
 }
 
-// Whether each of the first m directory rows is.
-fn dirs_fit(dirs: &[u8], m: usize) -> bool
-    requires { m * dir_width ≤ length dirs.now }
-    ensures { result ≡ all_of (dir_fits dirs.now) 0 m }
-{
-    (0..m).all(|j| dir_fits(dirs, j))
-}
-
 // Whether the rows held are the forms of slots and of directories.
-#[tactic(auto, unfolding(crate::specs::Test::fits_ok))]
 fn fits_ok(nums: &[u64], names: &[u8], dirs: &[u8], pool: Pool) -> bool
     requires { Sized pool (length nums.now) (length names.now) (length dirs.now) }
     ensures { result ≡ fits_ok (bufs pool nums.now names.now dirs.now) }
 {
     let n = pool.held;
     let m = pool.dirs;
-    if !rows_fit(nums, names, n) {
+    if !(0..n).all(|i| row_fits(nums, names, i)) {
         return false;
     }
-    dirs_fit(dirs, m)
+    (0..m).all(|j| dir_fits(dirs, j))
 }
 
 // ---- slot rows
@@ -228,22 +211,14 @@ fn row_ok(nums: &[u64], names: &[u8], keys: &[u32], cap: usize, n: usize, c: u64
     first_ok(nums, names, keys, cap, n, i)
 }
 
-// Whether each row is.
-fn rows_ok(nums: &[u64], names: &[u8], keys: &[u32], cap: usize, n: usize, c: u64) -> bool
-    requires { Flat cap n nums.now names.now × Keys key_of (λ j. path_of (at (rows_of nums.now names.now n) j)) n keys.now }
-    ensures { result ≡ all_of (row_ok c (rows_of nums.now names.now n)) 0 n }
-{
-    (0..n).all(|i| row_ok(nums, names, keys, cap, n, c, i))
-}
-
-// The same, with the keys worked out here.
+// Whether each row is. The keys are worked out once.
 fn slots_ok(nums: &[u64], names: &[u8], cap: usize, n: usize, c: u64) -> bool
     requires { Flat cap n nums.now names.now × (n ≤ 64) }
     ensures { result ≡ all_of (row_ok c (rows_of nums.now names.now n)) 0 n }
 {
     let mut keys = [0u32; 64];
     row_keys(nums, names, cap, n, &mut keys);
-    rows_ok(nums, names, &keys, cap, n, c)
+    (0..n).all(|i| row_ok(nums, names, &keys, cap, n, c, i))
 }
 
 // ---- the queue
@@ -263,14 +238,6 @@ fn cell_ok(nums: &[u64], names: &[u8], cap: usize, n: usize, q: [u8; 64], k: usi
         return false;
     }
     !q[..k].contains(&x)
-}
-
-// Whether each cell of the queue is.
-fn cells_ok(nums: &[u64], names: &[u8], cap: usize, n: usize, q: [u8; 64], free: usize) -> bool
-    requires { Flat cap n nums.now names.now × (free ≤ 64) }
-    ensures { result ≡ all_of (cell_ok (rows_of nums.now names.now n) q) 0 free }
-{
-    (0..free).all(|k| cell_ok(nums, names, cap, n, q, k))
 }
 
 // ---- directories
@@ -408,22 +375,14 @@ fn dir_ok(dirs: &[u8], keys: &[u32], m: usize, j: usize) -> bool
     up_held(dirs, keys, m, j, x)
 }
 
-// Whether each directory is normal, the first of its path, and its nearest ancestor a directory.
-fn dirs_ok(dirs: &[u8], keys: &[u32], m: usize) -> bool
-    requires { (m * dir_width ≤ length dirs.now) × Keys text_key (dir_at dirs.now) m keys.now }
-    ensures { result ≡ all_of (dir_ok dirs.now m) 0 m }
-{
-    (0..m).all(|j| dir_ok(dirs, keys, m, j))
-}
-
-// The same, with the keys worked out here.
+// Whether each directory is normal, the first of its path, and its nearest ancestor a directory. The keys are worked out once.
 fn directories_ok(dirs: &[u8], m: usize) -> bool
     requires { (m * dir_width ≤ length dirs.now) × (m ≤ 256) }
     ensures { result ≡ all_of (dir_ok dirs.now m) 0 m }
 {
     let mut keys = [0u32; 256];
     dir_keys(dirs, m, &mut keys);
-    dirs_ok(dirs, &keys, m)
+    (0..m).all(|j| dir_ok(dirs, &keys, m, j))
 }
 
 // ---- the whole
@@ -443,7 +402,7 @@ fn view_ok(nums: &[u64], names: &[u8], dirs: &[u8], pool: Pool) -> bool
     if !slots_ok(nums, names, cap, n, pool.counter) {
         return false;
     }
-    if !cells_ok(nums, names, cap, n, q, free) {
+    if !(0..free).all(|k| cell_ok(nums, names, cap, n, q, k)) {
         return false;
     }
     directories_ok(dirs, m)
