@@ -303,7 +303,7 @@ fn patch_one(s: &[u8], i: usize, bytes: &mut [u8]) -> Option<usize>
 
 // Lays the patches at i over the device, one after the other, and gives the place behind them, where the operations start. At the first
 // that is cut off or not inside of the device it stops.
-#[tactic(auto, using(crate::specs::Reading::place_behind), unfolding(crate::specs::Format::patched_m))]
+#[tactic(auto, unfolding(crate::specs::Format::patched_m))]
 pub fn patch(s: &[u8], i: usize, count: usize, bytes: &mut [u8]) -> Option<usize>
     requires { i ≤ length s.now }
     ensures { patching result bytes.new ≡ patched_m s.now count i bytes.old }
