@@ -1,69 +1,22 @@
--- The ways out of what answers a request: one law for each, from the tests that were passed to what is answered.
+-- The ways out of what answers a request, where the definitions, opened, do not show them; and how long a body is that is whole.
 use Rattle.std.specs.Prelude.{None, Option, Some}
 use Prim.Native.Nat.{ℕ, ◌+◌, ◌-◌, ◌<◌, ◌≤◌}
 use mathlib.Core.Path.{◌≡◌, refl, sym, ap, ap₂, ◌∙◌}
 use mathlib.Core.Bool.{Bool, true, false, cond}
 use mathlib.Core.List.{List, [], ◌++◌}
-use native.Mathlib.Nat.{zero-add, add-sub_cancel_left}
+use native.Mathlib.Nat.{zero-add}
 use native.Mathlib.Omega.{arith}
 use borrow.Author.Tests.{lt-ltb, le-ltb, eq-eqb, ne_eqb, ltb-false}
 use lib.ListN.{length, take, drop, get_or, replicate, length-append, length-take, length-drop}
 use lib.Seq.{take_all, take-length}
-use lib.Dec.{ltb, eqb}
+use lib.Dec.{ltb}
 use Rattle.le.specs.Le.{le, field, laid}
 use Rattle.le.proofs.Fields.{length_le}
-use Rattle.le.proofs.Parts.{length_mid, mid_back, copy_back, laid_nothing, laid_front, laid_before, length_laid}
-use Rattle.harness.specs.Calls.{Outcome, outcome, encode_call, same_call}
-use Rattle.served.specs.Requests.{Export, most_lent, plain_in, lent_in, two_in, encode_of, same_of, export_of}
+use Rattle.le.proofs.Parts.{length_mid, mid_back, copy_back, laid_nothing, laid_front, laid_before}
+use Rattle.harness.specs.Calls.{Outcome, outcome}
+use Rattle.served.specs.Requests.{Export, most_lent, plain_in, lent_in, two_in, export_of}
 use Rattle.served.specs.Requests.{answer_for, answer_to, fitting, fronted, answered, frame, framed}
 use Rattle.served.specs.Answers.{Bounded, export_bounded, length_answer, answers_short}
-
--- ---- what is lent
-
-module _ (n : ℕ) (body : List ℕ) where
-  pub plain_short : length body < n → None ≡ plain_in n body
-  unfolding plain_in
-  plain_short h = rw (lt-ltb (length body) n h)
-
-  pub plain_whole : n ≤ length body → Some 0 ≡ plain_in n body
-  unfolding plain_in
-  plain_whole h = rw (le-ltb (length body) n h)
-
-module _ (at : ℕ) (body : List ℕ) where
-  pub lent_short : length body < at + 4 → None ≡ lent_in at body
-  unfolding lent_in
-  lent_short h = rw (lt-ltb (length body) (at + 4) h)
-
-  module _ {n : ℕ} (h : at + 4 ≤ length body) (e : n ≡ field body at 4) where
-    pub lent_large : most_lent < n → None ≡ lent_in at body
-    unfolding lent_in
-    lent_large l = rw (le-ltb (length body) (at + 4) h, lt-ltb most_lent (field body at 4) (rw e at l))
-
-    pub lent_whole : n ≤ most_lent → Some n ≡ lent_in at body
-    unfolding lent_in
-    lent_whole l = ap Some e ∙ rw (le-ltb (length body) (at + 4) h, le-ltb most_lent (field body at 4) (rw e at l))
-
-module _ (body : List ℕ) where
-  pub two_short : length body < 4 → None ≡ two_in body
-  unfolding two_in
-  two_short h = rw (lt-ltb (length body) 4 h)
-
-  module _ {n : ℕ} (h : 4 ≤ length body) (e : n ≡ field body 0 4) where
-    pub two_cut : length body - 4 < n → None ≡ two_in body
-    unfolding two_in
-    two_cut l = rw (le-ltb (length body) 4 h, lt-ltb (length body - 4) (field body 0 4) (rw e at l))
-
-    pub two_whole : n ≤ length body - 4 → Some 0 ≡ two_in body
-    unfolding two_in
-    two_whole l = rw (le-ltb (length body) 4 h, le-ltb (length body - 4) (field body 0 4) (rw e at l))
-
--- a number with no row is no call
-pub no_export : (call : ℕ) → (call ≡ 1 → ⊥) → (call ≡ 2 → ⊥) → (call ≡ 3 → ⊥) → (call ≡ 4 → ⊥) → (call ≡ 5 → ⊥) → (call ≡ 6 → ⊥)
-    → (call ≡ 7 → ⊥) → (call ≡ 8 → ⊥) → export_of call ≡ export_of 0
-unfolding export_of
-no_export call a b c d e f g h =
-    rw (ne_eqb call 1 a, ne_eqb call 2 b, ne_eqb call 3 c, ne_eqb call 4 d)
-    (rw (ne_eqb call 5 e, ne_eqb call 6 f, ne_eqb call 7 g, ne_eqb call 8 h))
 
 -- ---- a body that is whole is long enough
 
@@ -98,20 +51,6 @@ two_long body e =
 -- `&s[a..]` is all from a on
 pub from_on : (a : ℕ) (s : List ℕ) → take (length s - a) (drop a s) ≡ drop a s
 from_on a s = take_all (length s - a) (drop a s) (rw length-drop (omega arith))
-
-pub same_parts : (body : List ℕ) {r n : ℕ} → n ≡ field body 0 4
-    → r ≡ same_call (take (4 + n - 4) (drop 4 body)) (take (length body - (4 + n)) (drop (4 + n) body)) → r ≡ same_of body
-unfolding same_of
-same_parts body {r} {n} e h =
-    h ∙ ap₂ same_call (ap (λ (k : ℕ). take k (drop 4 body)) (add-sub_cancel_left 4 n ∙ e))
-    (from_on (4 + n) body ∙ ap (λ (k : ℕ). drop (4 + k) body) e)
-
-pub encode_parts : (body out : List ℕ) {u l g : ℕ} {c : Outcome} → u ≡ field body 0 1 → l ≡ field body 1 8 → g ≡ field body 9 8
-    → c ≡ encode_call u l g (take (length body - 21) (drop 21 body)) out → c ≡ encode_of body out
-unfolding encode_of
-encode_parts body out {u} {l} {g} d e f h =
-    h ∙ ap₂ (λ (x y : ℕ). encode_call x y g (take (length body - 21) (drop 21 body)) out) d e
-    ∙ ap₂ (λ (x : ℕ) (p : List ℕ). encode_call (field body 0 1) (field body 1 8) x p out) f (from_on 21 body)
 
 -- ---- the answer
 
@@ -199,10 +138,6 @@ module _ (request out : List ℕ) where
   pub answer_small : {n : ℕ} {ys : List ℕ} → outcome n ys ≡ answered request out → n ≤ 8 + most_lent
   unfolding answered
   answer_small e = omega (arith, ap (λ (c : Outcome). c.answer) e, fitting_short (length out) (answer_to request), answers_short request)
-
-  pub framed_none : length out < 4 → outcome 0 out ≡ framed request out
-  unfolding framed
-  framed_none h = rw (lt-ltb (length out) 4 h)
 
   pub framed_done : 4 ≤ length out → {n : ℕ} {ys o : List ℕ} → outcome n ys ≡ answered request (take (length out - 4) (drop 4 out))
       → o ≡ laid (take 4 out ++ (ys ++ drop (length out - 4) (drop 4 out))) 0 (le 4 n) → outcome (4 + n) o ≡ framed request out

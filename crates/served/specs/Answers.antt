@@ -1,6 +1,6 @@
 -- What holds of every answer: how long it is, so that a buffer of 1 MiB has room for each.
 use Rattle.std.specs.Prelude.{None, Option, Some}
-use Rattle.std.specs.Prelude.{ℕ, ◌+◌, ◌-◌, ◌≤◌, ◌≡◌, refl, Bool, true, false, cond, not, List, [], ◌++◌, length, take, drop, get_or, replicate, eqb, ltb}
+use Rattle.std.specs.Prelude.{ℕ, ◌+◌, ◌-◌, ◌≤◌, ◌≡◌, refl, Bool, true, false, cond, not, List, [], length, take, drop, get_or, replicate, eqb, ltb}
 use Rattle.std.proofs.Common.{ap₂, subst, ◌∙◌, arith, le-ltb, ltb-false, length-append, length-take, length-drop, lit≤}
 use Rattle.std.proofs.lemmas.List.{length-replicate}
 use Rattle.le.specs.Le.{le, field, laid}

@@ -5,17 +5,17 @@
 // specs/Requests.antt.
 #![tactic(auto)]
 
-ghost use Rattle.std.specs.Prelude.{◌≡◌, ◌+◌, ◌≤◌, length, replicate};
+ghost use Rattle.std.specs.Prelude.{◌≡◌, ◌+◌, ◌≤◌, Some, length, replicate};
 ghost use Rattle.le.specs.Le.{field};
 ghost use Rattle.harness.specs.Calls.{outcome};
 ghost use Rattle.served.specs.Requests.{plain_in, lent_in, two_in, check_of, encode_of, same_of, export_of, answered, framed};
-
 
 // The most bytes that a call is lent: with all that stands before them an answer stays in 1 MiB.
 const MOST_LENT: usize = 0xF_FFC0;
 
 // The answer to a request with its length before it, a u32, in the front of out; gives how many bytes that is. Where out has no room for
 // the answer it is empty, and where it has none for a length there is none.
+#[tactic(auto, unfolding(crate::specs::Requests::framed))]
 pub fn answer(request: &[u8], out: &mut [u8]) -> usize
     ensures { outcome result out.new ≡ framed request.now out.old }
 {
@@ -49,6 +49,7 @@ fn bare_answer(request: &[u8], out: &mut [u8]) -> usize
 }
 
 // How many bytes the number that a call answers has.
+#[tactic(auto, unfolding(crate::specs::Requests::export_of))]
 fn width_of(call: u8) -> usize
     ensures { result ≡ (export_of call).width }
 {
@@ -66,6 +67,7 @@ fn width_of(call: u8) -> usize
 }
 
 // How many bytes a call is lent, where its body is whole.
+#[tactic(auto, unfolding(crate::specs::Requests::export_of))]
 fn lends(call: u8, body: &[u8]) -> Option<usize>
     ensures { result ≡ (export_of call).lends body.now }
 {
@@ -83,16 +85,15 @@ fn lends(call: u8, body: &[u8]) -> Option<usize>
 }
 
 // None, of a body with n bytes of numbers.
+#[tactic(auto, unfolding(crate::specs::Requests::plain_in))]
 fn plain(body: &[u8], n: usize) -> Option<usize>
     ensures { result ≡ plain_in n body.now }
 {
-    if body.len() < n {
-        return None;
-    }
-    Some(0)
+    (n <= body.len()).then_some(0)
 }
 
 // As many as the u32 at a place says.
+#[tactic(auto, unfolding(crate::specs::Requests::lent_in))]
 fn lent_at(body: &[u8], at: usize) -> Option<usize>
     requires { at ≤ 17 }
     ensures { result ≡ lent_in at body.now }
@@ -101,13 +102,11 @@ fn lent_at(body: &[u8], at: usize) -> Option<usize>
         return None;
     }
     let n = le::get_at(body, at, 4) as usize;
-    if MOST_LENT < n {
-        return None;
-    }
-    Some(n)
+    (n <= MOST_LENT).then_some(n)
 }
 
 // None, of a body with two runs of bytes, the length of the first before it.
+#[tactic(auto, unfolding(crate::specs::Requests::two_in))]
 fn two(body: &[u8]) -> Option<usize>
     ensures { result ≡ two_in body.now }
 {
@@ -115,35 +114,22 @@ fn two(body: &[u8]) -> Option<usize>
         return None;
     }
     let n = le::get_at(body, 0, 4) as usize;
-    if body.len() - 4 < n {
-        return None;
-    }
-    Some(0)
+    (n <= body.len() - 4).then_some(0)
 }
 
 // Makes a call, whose body is whole, with a buffer of 0xAA.
 fn ask(call: u8, body: &[u8], out: &mut [u8]) -> u64
-    requires { (export_of call).lends body.now ≡ At (length out.old) }
+    requires { (export_of call).lends body.now ≡ Some (length out.old) }
     ensures { outcome result out.new ≡ (export_of call).comes body.now (replicate (length out.old) 170) }
 {
-    blank(out);
+    out.fill(0xAA);
     make(call, body, out)
 }
 
-// All bytes 0xAA.
-fn blank(dst: &mut [u8])
-    ensures { dst.new ≡ replicate (length dst.old) 170 }
-{
-    let mut i = 0;
-    while i < dst.len() {
-        dst[i] = 0xAA;
-        i += 1;
-    }
-}
-
 // Makes a call, whose body is whole.
+#[tactic(auto, unfolding(crate::specs::Requests::export_of, crate::specs::Requests::script_of))]
 fn make(call: u8, body: &[u8], out: &mut [u8]) -> u64
-    requires { (export_of call).lends body.now ≡ At (length out.old) }
+    requires { (export_of call).lends body.now ≡ Some (length out.old) }
     ensures { outcome result out.new ≡ (export_of call).comes body.now out.old }
 {
     match call {
@@ -160,6 +146,7 @@ fn make(call: u8, body: &[u8], out: &mut [u8]) -> u64
 }
 
 // slot_check: the number and the bytes behind it.
+#[tactic(auto, unfolding(crate::specs::Requests::check_of))]
 fn check(body: &[u8]) -> u64
     requires { 4 ≤ length body.now }
     ensures { result ≡ check_of body.now }
@@ -168,6 +155,7 @@ fn check(body: &[u8]) -> u64
 }
 
 // header_encode: three numbers, the size of the buffer, and the path.
+#[tactic(auto, unfolding(crate::specs::Requests::encode_of))]
 fn encode(body: &[u8], out: &mut [u8]) -> u64
     requires { 21 ≤ length body.now }
     ensures { outcome result out.new ≡ encode_of body.now out.old }
@@ -179,6 +167,7 @@ fn encode(body: &[u8], out: &mut [u8]) -> u64
 }
 
 // path_same: two runs of bytes.
+#[tactic(auto, unfolding(crate::specs::Requests::same_of))]
 fn same(body: &[u8]) -> u64
     requires { 4 + field body.now 0 4 ≤ length body.now }
     ensures { result ≡ same_of body.now }

@@ -1,9 +1,8 @@
--- `encode_parts`: the numbers, and the path behind them.
+-- A field of one byte is a u8.
 use Prim.Native.Nat.{ℕ, ◌<◌}
 use mathlib.Core.Path.{sym, subst}
 use native.Mathlib.Omega.{arith}
 use Rattle.script_format.specs.Reading.{field_lt}
-use Rattle.served.proofs.Ways.{encode_parts}
 use Rattle.served.proofs.encode.Goals as goal
 
 pub overflow_cast-in_use : goal.overflow_cast-in_use
@@ -11,9 +10,3 @@ overflow_cast-in_use c =
     let n : c.get_at-in_use.result < 256 = subst (λ (k : ℕ). k < 256) (sym c.get_at-in_use.ensures)
     (field_lt c.args.body.now 0 1 1 (λ j. omega (arith, c.type_inv.body j)) (omega arith)) in
     omega (arith, n)
-
-pub returns : goal.returns
-returns c =
-    let a = c.args in
-    encode_parts a.body.now a.out.now c.get_at-in_use.ensures c.get_at-len.ensures
-    c.get_at-generation.ensures c.header_encode.ensures
