@@ -12,29 +12,24 @@ ghost use Rattle.dir_rows.specs.Rows.{dir_at, dirs_of, FlatDirs};
 
 use limits::{DIR_WIDTH, MAX_PATH};
 
-// The length of what row j spells.
-#[tactic(auto, using(crate::proofs::InBuffer::dir_length))]
-pub fn dir_len(dirs: &[u8], j: usize) -> usize
+// What row j spells, where it lies.
+#[tactic(auto, using(crate::proofs::InBuffer::dir_length, crate::proofs::InBuffer::dir_short, crate::proofs::InBuffer::dir_part))]
+pub fn dir_path(dirs: &[u8], j: usize) -> &[u8]
     requires { j * dir_width + dir_width ≤ length dirs.now }
-    ensures { result ≡ length (dir_at dirs.now j) }
+    ensures { result.now ≡ dir_at dirs.now j }
 {
-    let k = le::get_at(dirs, j * DIR_WIDTH, 2) as usize;
-    if MAX_PATH < k {
-        return MAX_PATH;
-    }
-    k
+    let k = (le::get_at(dirs, j * DIR_WIDTH, 2) as usize).min(MAX_PATH);
+    let at = j * DIR_WIDTH + 2;
+    &dirs[at..at + k]
 }
 
 // Whether p is the path of one of the first m rows.
-#[tactic(auto, using(crate::proofs::InBuffer::dir_short))]
 pub fn dir_find(dirs: &[u8], m: usize, p: &[u8]) -> bool
     requires { m * dir_width ≤ length dirs.now }
     ensures { result ≡ has_path (dirs_of dirs.now m) p.now }
 {
     for j in 0..m {
-        let k = dir_len(dirs, j);
-        let at = j * DIR_WIDTH + 2;
-        if path::same_path(&dirs[at..at + k], p) {
+        if path::same_path(dir_path(dirs, j), p) {
             return true;
         }
     }

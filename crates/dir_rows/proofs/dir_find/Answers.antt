@@ -19,7 +19,7 @@ returns-then-same_path c =
     sym
     (l.invariant
     ∙ has_hit (dir_at a.dirs.now) l.j a.m a.p.now (omega arith)
-    (ap (λ (x : _). same_path x a.p.now) (sym (dir_part a.dirs.now l.j _ c.dir_len-k.ensures))
+    (ap (λ (x : _). same_path x a.p.now) (sym c.dir_path.ensures)
     ∙ sym c.same_path.ensures ∙ c.if-same_path.true))
 
 pub loop-j-preserved : goal.loop-j-preserved
@@ -28,7 +28,7 @@ loop-j-preserved c =
     let a = c.args in
     l.invariant
     ∙ has_on (dir_at a.dirs.now) l.j a.m a.p.now (omega arith)
-    (ap (λ (x : _). same_path x a.p.now) (sym (dir_part a.dirs.now l.j _ c.dir_len-k.ensures))
+    (ap (λ (x : _). same_path x a.p.now) (sym c.dir_path.ensures)
     ∙ sym c.same_path.ensures ∙ c.if-same_path.false)
 
 pub returns : goal.returns
