@@ -5,7 +5,8 @@
 
 ghost use Rattle.std.specs.Prelude.{◌≡◌, ◌<◌};
 ghost use Rattle.device.specs.Device.{dev};
-ghost use Rattle.slot_rows.specs.Rows.{at, rows_of, Flat};
+ghost use Rattle.slot_rows.specs.Rows.{at};
+ghost use Rattle.slot_rows.specs.Held.{held, Lie};
 ghost use Rattle.pool_state.specs.State.{bufs, bufs_before, bufs_after, view, IsPool};
 ghost use Rattle.pool_steps.specs.World.{lent, view_w, Ready, before, after};
 ghost use Rattle.pool_steps.specs.Outcome.{outcome, flat_o};
@@ -15,6 +16,7 @@ use device::{Geometry, Place};
 use inner_handle::Ended;
 use limits::MAX_PATH;
 use pool_state::Pool;
+use slot_rows::Rows;
 
 // The number of create_dir_all, and the record after it.
 #[derive(Clone, Copy)]
@@ -56,10 +58,15 @@ pub fn exists(nums: &[u64], names: &[u8], dirs: &[u8], pool: Pool, path: &[u8]) 
     requires { IsPool (bufs pool nums.now names.now dirs.now) }
     ensures { result ≡ exists_m path.now (view (bufs_before nums.now names.now dirs.now pool)) }
 {
-    let cap = pool.chosen.rows;
     let n = pool.held;
     let m = pool.dirs;
-    let i = slot_rows::find_row(nums, names, cap, n, path);
+    let rows = Rows {
+        nums,
+        names,
+        cap: pool.chosen.rows,
+        n,
+    };
+    let i = rows.find_row(path);
     if i < n {
         return true;
     }
@@ -71,14 +78,19 @@ pub fn metadata(nums: &[u64], names: &[u8], dirs: &[u8], pool: Pool, path: &[u8]
     requires { IsPool (bufs pool nums.now names.now dirs.now) }
     ensures { result ≡ metadata_m path.now (view (bufs_before nums.now names.now dirs.now pool)) }
 {
-    let cap = pool.chosen.rows;
     let n = pool.held;
     let m = pool.dirs;
-    let i = slot_rows::find_row(nums, names, cap, n, path);
+    let rows = Rows {
+        nums,
+        names,
+        cap: pool.chosen.rows,
+        n,
+    };
+    let i = rows.find_row(path);
     if i < n {
         return Meta {
             out: 0,
-            len: slot_rows::row_len(nums, names, cap, n, i),
+            len: rows.row_len(i),
             is_dir: false,
         };
     }
@@ -100,16 +112,11 @@ pub fn metadata(nums: &[u64], names: &[u8], dirs: &[u8], pool: Pool, path: &[u8]
 
 // Whether row i is a dirty file whose parent equals the path.
 #[tactic(auto, unfolding(crate::specs::Folders::is_due))]
-fn is_due(nums: &[u64], names: &[u8], cap: usize, n: usize, i: usize, path: &[u8]) -> bool
-    requires { Flat cap n nums.now names.now × (i < n) }
-    ensures { result ≡ is_due path.now (at (rows_of nums.now names.now n) i) }
+fn is_due(rows: &Rows, i: usize, path: &[u8]) -> bool
+    requires { Lie rows.now × (i < rows.now.n) }
+    ensures { result ≡ is_due path.now (at (held rows.now) i) }
 {
-    if slot_rows::is_dirty(nums, names, cap, n, i) {
-        let k = slot_rows::path_len(nums, names, cap, n, i);
-        let from = i * MAX_PATH;
-        return path::is_parent(path, &names[from..from + k]);
-    }
-    false
+    rows.is_dirty(i) && path::is_parent(path, rows.path(i))
 }
 
 // Writes and flushes the header of row i where it is due; else nothing is done.
@@ -131,9 +138,13 @@ fn sync_one(
     ensures { outcome result.out tt (after bytes.new phys.new result.place nums.new names.now dirs.now pool)
         ≡ flat_o (sync_one_m plan.now geometry path.now i (view_w (before bytes.old phys.old place nums.old names.now dirs.now pool))) }
 {
-    let cap = pool.chosen.rows;
-    let n = pool.held;
-    if !is_due(nums, names, cap, n, i, path) {
+    let rows = Rows {
+        nums,
+        names,
+        cap: pool.chosen.rows,
+        n: pool.held,
+    };
+    if !is_due(&rows, i, path) {
         return Ended {
             out: 0,
             place: place,

@@ -28,15 +28,6 @@ use Rattle.inner_list.specs.Parts.{child_files, child_dirs, entries, size_of}
 
 -- ---- children
 
-pub child_file : (cap n : ℕ) (l s : List ℕ) → Flat cap n l s → (dir : List ℕ) (i k : ℕ) → i < n → k ≡ length (path_of (at (rows_of l s n) i))
-    → is_bound (at (rows_of l s n) i) ≡ true → is_parent dir (take (i * max_path + k - i * max_path) (drop (i * max_path) s)) ≡ is_child dir (at (rows_of l s n) i)
-unfolding is_child
-child_file cap n l s F dir i k h e b = rw b (ap (is_parent dir) (name_part cap n l s F i h k e).1)
-
-pub child_dir : (m : ℕ) (b dir : List ℕ) (j k : ℕ) → m * dir_width ≤ length b → j < m → k ≡ length (dir_at b j)
-    → is_parent dir (take (j * dir_width + 2 + k - (j * dir_width + 2)) (drop (j * dir_width + 2) b)) ≡ is_parent dir (get_or (dirs_of b m) j [])
-child_dir m b dir j k h l e = ap (is_parent dir) (dir_part b j k e ∙ sym (row_spells m b h j l))
-
 pub child_files_lem : (dir l s : List ℕ) (n : ℕ)
     → child_files dir (rows_of l s n) ≡ map (file_span (rows_of l s n)) (keep (λ (i : ℕ). is_child dir (at (rows_of l s n) i)) (range 0 n))
 unfolding child_files

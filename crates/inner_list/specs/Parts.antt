@@ -24,7 +24,3 @@ entries kind b xs = cat (λ (x : ℕ). entry kind (spelled b x)) xs
 unfoldable pub size_of : List ℕ → ℕ
 size_of [] = 0
 size_of (x ∷ xs) = 3 + x % 512 + size_of xs
-
--- What a closure answers below n, by its `post`, is g.
-abbrev pub Answers : {F A : Type 0} → (F → ℕ → A → Type 0) → F → ℕ → (ℕ → A) → Type 0
-Answers {F} {A} post c n g = (i : ℕ) (x : A) → i < n → post c i x → x ≡ g i

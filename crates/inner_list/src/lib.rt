@@ -9,15 +9,16 @@ ghost use Rattle.limits.specs.Limits.{dir_width};
 ghost use Rattle.lists.specs.Runs.{range};
 ghost use Rattle.lists.specs.Sort.{keep, sort};
 ghost use Rattle.path.specs.Path.{is_parent};
-ghost use Rattle.slot_rows.specs.Rows.{at, rows_of, Flat};
+ghost use Rattle.slot_rows.specs.Rows.{at};
+ghost use Rattle.slot_rows.specs.Held.{held, Lie};
 ghost use Rattle.dir_rows.specs.Rows.{dirs_of};
 ghost use Rattle.pool_state.specs.State.{bufs, bufs_before, view, IsPool};
 ghost use Rattle.row_order.specs.Spans.{AllInside, span_before};
 ghost use Rattle.inner_list.specs.Listing.{is_child, entry, listing, read_dir_m};
-ghost use Rattle.inner_list.specs.Parts.{child_files, child_dirs, size_of, entries, Answers};
+ghost use Rattle.inner_list.specs.Parts.{child_files, child_dirs, size_of, entries};
 
-use limits::{DIR_WIDTH, MAX_PATH};
 use pool_state::Pool;
+use slot_rows::Rows;
 
 // The number of read_dir, and how many bytes it wrote.
 #[derive(Clone, Copy)]
@@ -28,16 +29,11 @@ pub struct Listed {
 
 // Whether slot row i is bound to a path whose parent is dir.
 #[tactic(auto, unfolding(crate::specs::Listing::is_child))]
-fn is_child(nums: &[u64], names: &[u8], cap: usize, n: usize, dir: &[u8], i: usize) -> bool
-    requires { Flat cap n nums.now names.now × (i < n) }
-    ensures { result ≡ is_child dir.now (at (rows_of nums.now names.now n) i) }
+fn is_child(rows: &Rows, dir: &[u8], i: usize) -> bool
+    requires { Lie rows.now × (i < rows.now.n) }
+    ensures { result ≡ is_child dir.now (at (held rows.now) i) }
 {
-    if slot_rows::is_bound(nums, names, cap, n, i) {
-        let k = slot_rows::path_len(nums, names, cap, n, i);
-        let from = i * MAX_PATH;
-        return path::is_parent(dir, &names[from..from + k]);
-    }
-    false
+    rows.is_bound(i) && path::is_parent(dir, rows.path(i))
 }
 
 // Whether the parent of directory row j is dir.
@@ -45,52 +41,20 @@ fn is_child_dir(dirs: &[u8], m: usize, dir: &[u8], j: usize) -> bool
     requires { (m * dir_width ≤ length dirs.now) × (j < m) }
     ensures { result ≡ is_parent dir.now (get_or (dirs_of dirs.now m) j []) }
 {
-    let k = dir_rows::dir_len(dirs, j);
-    let from = j * DIR_WIDTH + 2;
-    path::is_parent(dir, &dirs[from..from + k])
-}
-
-// Writes the parts of the rows below n that pass to the front of spans, by row, and says how many they are.
-fn picked<P: Fn(usize) -> bool, S: Fn(usize) -> u32>(
-    n: usize,
-    spans: &mut [u32],
-    passes: P,
-    span: S,
-) -> usize
-    requires room { n ≤ length spans.old }
-    requires asked { (i : ℕ) → i < n → P.pre passes i × S.pre span i }
-    ensures { (p : ℕ → Bool) (f : ℕ → ℕ) → Answers P.post passes n p → Answers S.post span n f
-        → (result ≡ length (map f (keep p (range 0 n)))) × (spans.new ≡ sets spans.old 0 (map f (keep p (range 0 n)))) }
-{
-    let mut count = 0;
-    for i in 0..n {
-        if passes(i) {
-            spans[count] = span(i);
-            count += 1;
-        }
-    }
-    count
+    path::is_parent(dir, dir_rows::dir_path(dirs, j))
 }
 
 // Writes the paths of the directory's files, by slot, to the front of spans, and says how many they are.
-fn child_files(
-    nums: &[u64],
-    names: &[u8],
-    cap: usize,
-    n: usize,
-    dir: &[u8],
-    spans: &mut [u32],
-) -> usize
-    requires { Flat cap n nums.now names.now × (n ≤ 256) × (n ≤ length spans.old) }
-    ensures count { result ≡ length (child_files dir.now (rows_of nums.now names.now n)) }
-    ensures picked { spans.new
-        ≡ sets spans.old 0 (child_files dir.now (rows_of nums.now names.now n)) }
+fn child_files(rows: &Rows, dir: &[u8], spans: &mut [u32]) -> usize
+    requires { Lie rows.now × (rows.now.n ≤ 256) × (rows.now.n ≤ length spans.old) }
+    ensures count { result ≡ length (child_files dir.now (held rows.now)) }
+    ensures picked { spans.new ≡ sets spans.old 0 (child_files dir.now (held rows.now)) }
 {
-    picked(
-        n,
+    row_order::picked(
+        rows.n,
         spans,
-        |i| is_child(nums, names, cap, n, dir, i),
-        |i| row_order::file_span(nums, names, cap, n, i),
+        |i| is_child(rows, dir, i),
+        |i| row_order::file_span(rows, i),
     )
 }
 
@@ -100,7 +64,7 @@ fn child_dirs(dirs: &[u8], m: usize, dir: &[u8], spans: &mut [u32]) -> usize
     ensures count { result ≡ length (child_dirs dir.now (dirs_of dirs.now m)) }
     ensures picked { spans.new ≡ sets spans.old 0 (child_dirs dir.now (dirs_of dirs.now m)) }
 {
-    picked(
+    row_order::picked(
         m,
         spans,
         |j| is_child_dir(dirs, m, dir, j),
@@ -177,15 +141,19 @@ pub fn read_dir(
     ensures { listing result.out result.size buf.new
         ≡ read_dir_m path.now buf.old (view (bufs_before nums.now names.now dirs.now pool)) }
 {
-    let cap = pool.chosen.rows;
-    let n = pool.held;
     let m = pool.dirs;
     if !dir_rows::dir_find(dirs, m, path) {
         return Listed { out: 5, size: 0 };
     }
     let mut files = [0u32; 64];
     let mut folders = [0u32; 256];
-    let f = child_files(nums, names, cap, n, path, &mut files);
+    let rows = Rows {
+        nums,
+        names,
+        cap: pool.chosen.rows,
+        n: pool.held,
+    };
+    let f = child_files(&rows, path, &mut files);
     let d = child_dirs(dirs, m, path, &mut folders);
     let size = size_of(&files[..f]) + size_of(&folders[..d]);
     if buf.len() < size {

@@ -21,6 +21,11 @@ use Rattle.row_order.specs.Spans.{span, spelled, SpanInside, AllInside, file_spa
 
 -- ---- a loop that picks
 
+
+-- What a closure answers below n, by its `post`, is g.
+abbrev pub Answers : {F A : Type 0} → (F → ℕ → A → Type 0) → F → ℕ → (ℕ → A) → Type 0
+Answers {F} {A} post c n g = (i : ℕ) (x : A) → i < n → post c i x → x ≡ g i
+
 -- Behind row i, of n: count cells of l are written, and what is still to be picked makes the whole of it.
 pub record Picking (f : ℕ → ℕ) (p : ℕ → Bool) (n : ℕ) (l₀ : List ℕ) (i count : ℕ) (l : List ℕ) : Type 0 where
   pub few : count ≤ i

@@ -3,16 +3,19 @@
 // refused.
 #![tactic(auto)]
 
-ghost use Rattle.std.specs.Prelude.{◌≡◌, ◌+◌, ◌*◌, ◌^◌, ◌≤◌, ◌<◌, length, get_or, drop};
+ghost use Rattle.std.specs.Prelude.{◌≡◌, ℕ, Bool, map, ◌+◌, ◌*◌, ◌^◌, ◌≤◌, ◌<◌, length, get_or, drop};
 ghost use Rattle.std.proofs.lemmas.List.Edits.{sets};
 ghost use Rattle.limits.specs.Limits.{dir_width};
-ghost use Rattle.lists.specs.Sort.{sort};
-ghost use Rattle.slot_rows.specs.Rows.{rows_of, Flat};
+ghost use Rattle.lists.specs.Runs.{range};
+ghost use Rattle.lists.specs.Sort.{keep, sort};
+ghost use Rattle.slot_rows.specs.Held.{held, Lie};
 ghost use Rattle.dir_rows.specs.Rows.{dirs_of};
 ghost use Rattle.row_order.specs.Spans.{span, span_before, SpanInside, AllInside, file_span, dir_span, slot_of, file_spans, dir_spans};
+ghost use Rattle.row_order.specs.Picks.{Answers};
 ghost use Rattle.row_order.specs.Risen.{Risen, place};
 
 use limits::{DIR_WIDTH, MAX_PATH};
+use slot_rows::Rows;
 
 // The part of a buffer that starts at a place and has a length, as one number.
 pub fn span(start: usize, len: usize) -> u32
@@ -68,12 +71,11 @@ pub fn sort(bytes: &[u8], spans: &mut [u32])
 // ---- the parts of rows
 
 // The path of slot row i, in the names.
-pub fn file_span(nums: &[u64], names: &[u8], cap: usize, n: usize, i: usize) -> u32
-    requires { Flat cap n nums.now names.now × (i < n) × (n ≤ 256) }
-    ensures { result ≡ file_span (rows_of nums.now names.now n) i }
+pub fn file_span(rows: &Rows, i: usize) -> u32
+    requires { Lie rows.now × (i < rows.now.n) × (rows.now.n ≤ 256) }
+    ensures { result ≡ file_span (held rows.now) i }
 {
-    let len = slot_rows::path_len(nums, names, cap, n, i);
-    span(i * MAX_PATH, len)
+    span(i * MAX_PATH, rows.path(i).len())
 }
 
 // The spelling of directory row j, in the directory rows.
@@ -81,8 +83,7 @@ pub fn dir_span(dirs: &[u8], m: usize, j: usize) -> u32
     requires { (m * dir_width ≤ length dirs.now) × (j < m) × (m ≤ 256) }
     ensures { result ≡ dir_span (dirs_of dirs.now m) j }
 {
-    let len = dir_rows::dir_len(dirs, j);
-    span(j * DIR_WIDTH + 2, len)
+    span(j * DIR_WIDTH + 2, dir_rows::dir_path(dirs, j).len())
 }
 
 // The slot whose path is the part x.
@@ -92,20 +93,39 @@ pub fn slot_of(x: u32) -> usize
     (x / 512) as usize / MAX_PATH
 }
 
-// Writes the paths of all files, by slot, to the front of spans, and says how many they are.
-pub fn all_files(nums: &[u64], names: &[u8], cap: usize, n: usize, spans: &mut [u32]) -> usize
-    requires { Flat cap n nums.now names.now × (n ≤ 256) × (n ≤ length spans.old) }
-    ensures { (result ≡ length (file_spans (rows_of nums.now names.now n)))
-        × (spans.new ≡ sets spans.old 0 (file_spans (rows_of nums.now names.now n))) }
+// Writes the parts of the rows below n that pass to the front of spans, by row, and says how many they are.
+pub fn picked<P: Fn(usize) -> bool, S: Fn(usize) -> u32>(
+    n: usize,
+    spans: &mut [u32],
+    passes: P,
+    span: S,
+) -> usize
+    requires room { n ≤ length spans.old }
+    requires asked { (i : ℕ) → i < n → P.pre passes i × S.pre span i }
+    ensures { (p : ℕ → Bool) (f : ℕ → ℕ) → Answers P.post passes n p → Answers S.post span n f
+        → (result ≡ length (map f (keep p (range 0 n)))) × (spans.new ≡ sets spans.old 0 (map f (keep p (range 0 n)))) }
 {
     let mut count = 0;
     for i in 0..n {
-        if slot_rows::is_bound(nums, names, cap, n, i) {
-            spans[count] = file_span(nums, names, cap, n, i);
+        if passes(i) {
+            spans[count] = span(i);
             count += 1;
         }
     }
     count
+}
+
+// Writes the paths of all files, by slot, to the front of spans, and says how many they are.
+pub fn all_files(rows: &Rows, spans: &mut [u32]) -> usize
+    requires { Lie rows.now × (rows.now.n ≤ 256) × (rows.now.n ≤ length spans.old) }
+    ensures { (result ≡ length (file_spans (held rows.now))) × (spans.new ≡ sets spans.old 0 (file_spans (held rows.now))) }
+{
+    picked(
+        rows.n,
+        spans,
+        |i| rows.is_bound(i),
+        |i| file_span(rows, i),
+    )
 }
 
 // Writes the spellings of all directories, by row, to the front of spans: there are m.

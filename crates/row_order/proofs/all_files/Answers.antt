@@ -1,41 +1,16 @@
--- The invariant `Picking`: what is still to be picked makes the whole of it.
-use mathlib.Core.Path.{sym, ◌∙◌}
-use Rattle.row_order.specs.Picks.{picking_start, picking_yes, picking_no, picking_end, file_spans_lem}
-use native.Mathlib.Omega.{arith}
+-- What is picked, by what the closures answer.
+use Rattle.std.proofs.Common.{rules, ◌∙◌, sym, ap, length}
+use lib.Seq.{sets}
+use Rattle.slot_rows.specs.Rows.{at, is_bound}
+use Rattle.slot_rows.specs.Held.{held}
+use Rattle.row_order.specs.Spans.{file_span}
+use Rattle.row_order.specs.Picks.{file_spans_lem}
 use Rattle.row_order.proofs.all_files.Goals as goal
-use Rattle.row_order.proofs.all_files.Goals.{then-is_bound, else-is_bound}
-
-pub loop-i-init : goal.loop-i-init
-loop-i-init c =
-    picking_start _ _ _ _
-
-pub is_bound-requires : goal.is_bound-requires
-is_bound-requires c =
-    (c.requires.0, c.loop-i-test.true)
-
-pub file_span-requires : goal.file_span-requires
-file_span-requires c =
-    (c.requires.0, c.loop-i-test.true, c.requires.1)
-
-pub offset_bounds-spans-count : goal.offset_bounds-spans-count
-offset_bounds-spans-count c =
-    omega (arith, c.loop-i.invariant.few, c.loop-i.invariant.long)
-
-pub bounds-spans-count : goal.bounds-spans-count
-bounds-spans-count c =
-    omega (arith, c.loop-i.invariant.few, c.loop-i.invariant.long)
-
-pub overflow_add-count : goal.overflow_add-count
-overflow_add-count c =
-    omega (arith, c.loop-i.invariant.few, c.loop-i.invariant.long)
-
-pub loop-i-preserved : goal.loop-i-preserved
-loop-i-preserved c =
-    elim c.if-is_bound.branch [
-      | then-is_bound w ↦ rw (w.spans-is, w.count-is) (picking_yes _ _ _ _ _ _ _ c.loop-i.invariant c.loop-i-test.true _ (sym c.is_bound.ensures ∙ w.if-is_bound.true) w.file_span.ensures)
-      | else-is_bound w ↦ rw (w.spans-is, w.count-is) (picking_no _ _ _ _ _ _ _ c.loop-i.invariant c.loop-i-test.true (sym c.is_bound.ensures ∙ w.if-is_bound.false))
-    ]
 
 pub returns : goal.returns
 returns c =
-    picking_end _ _ _ _ _ _ _ c.loop-i.invariant _ c.loop-i-test.false (file_spans_lem _ _ _)
+    let rows = c.args.rows.now in
+    let rs = held rows in
+    let h = c.picked.ensures (λ i. is_bound (at rs i)) (file_span rs) (λ i t l k. search rules) (λ i x l k. search rules) in
+    let e = file_spans_lem rows.nums.now rows.names.now rows.n in
+    (h.0 ∙ sym (ap length e), h.1 ∙ sym (ap (sets c.args.spans.now 0) e))

@@ -1,5 +1,6 @@
 -- By `row_spells`: the row's length is that of the directory.
-use Prim.Native.Nat.{◌+◌, ◌*◌}
+use Prim.Native.Nat.{ℕ, ◌+◌, ◌*◌}
+use mathlib.Core.List.{List}
 use mathlib.Core.Path.{sym, ap, ◌∙◌}
 use lib.ListN.{length}
 use Rattle.limits.specs.Limits.{dir_width}
@@ -11,10 +12,10 @@ use Rattle.row_order.proofs.dir_span.Goals as goal
 
 pub span-requires : goal.span-requires
 span-requires c =
-    omega (arith, c.dir_len-len.ensures, dir_short c.args.dirs.now c.args.j)
+    omega (arith, ap length c.dir_path.ensures, dir_short c.args.dirs.now c.args.j)
 
 pub returns : goal.returns
 unfolding dir_span
 returns c =
     let a = c.args in
-    c.span.ensures ∙ ap (span (a.j * dir_width + 2)) (c.dir_len-len.ensures ∙ sym (ap length (row_spells a.m a.dirs.now c.requires.0 a.j c.requires.1)))
+    c.span.ensures ∙ ap (λ (x : List ℕ). span (a.j * dir_width + 2) (length x)) (c.dir_path.ensures ∙ sym (row_spells a.m a.dirs.now c.requires.0 a.j c.requires.1))

@@ -1,16 +1,14 @@
 -- The length is that of the row's path.
 use Prim.Native.Nat.{◌*◌}
 use mathlib.Core.Path.{ap, ◌∙◌}
+use mathlib.Core.List.{List}
+use Prim.Native.Nat.{ℕ}
+use lib.ListN.{length}
 use Rattle.limits.specs.Limits.{max_path}
 use Rattle.row_order.specs.Spans.{span, file_span}
-use native.Mathlib.Omega.{arith}
 use Rattle.row_order.proofs.file_span.Goals as goal
-
-pub span-requires : goal.span-requires
-span-requires c =
-    omega (arith, c.path_len-len.ensures, c.requires.0.short c.args.i)
 
 pub returns : goal.returns
 unfolding file_span
 returns c =
-    c.span.ensures ∙ ap (span (c.args.i * max_path)) c.path_len-len.ensures
+    c.span.ensures ∙ ap (λ (x : List ℕ). span (c.args.i * max_path) (length x)) c.path.ensures

@@ -1,8 +1,8 @@
 -- The invariant `Picking`, for whatever the closures answer: what is still to be picked makes the whole of it.
 use Rattle.std.proofs.Common.{ℕ, ◌≤◌, Bool}
 use Rattle.row_order.specs.Picks.{Picking}
-use Rattle.inner_list.specs.Parts.{Answers}
-use Rattle.inner_list.proofs.picked.Given as goal
+use Rattle.row_order.specs.Picks.{Answers}
+use Rattle.row_order.proofs.picked.Given as goal
 
 abbrev pub invariant-loop-i : goal.invariant-loop-i
 invariant-loop-i g l = record {

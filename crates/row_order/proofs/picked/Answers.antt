@@ -1,8 +1,8 @@
 -- One row more is picked, or is not; at the end all are: `picking_yes`, `picking_no`, `picking_end`.
 use Rattle.std.proofs.Common.{arith, sym, refl, true, false}
 use Rattle.row_order.specs.Picks.{picking_yes, picking_no, picking_end}
-use Rattle.inner_list.proofs.picked.Goals as goal
-use Rattle.inner_list.proofs.picked.Goals.{then-passes, else-passes}
+use Rattle.row_order.proofs.picked.Goals as goal
+use Rattle.row_order.proofs.picked.Goals.{then-passes, else-passes}
 
 pub loop-i-preserved : goal.loop-i-preserved
 loop-i-preserved g c =
