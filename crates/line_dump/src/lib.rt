@@ -6,7 +6,7 @@
 ghost use Rattle.std.specs.Prelude.{◌≡◌, ◌+◌, ◌*◌, ◌^◌, ◌≤◌, ◌<◌, length};
 ghost use Rattle.limits.specs.Limits.{dir_width};
 ghost use Rattle.lists.specs.Blocks.{cat};
-ghost use Rattle.slot_rows.specs.Rows.{rows_of, Flat};
+ghost use Rattle.slot_rows.specs.Held.{held, Lie};
 ghost use Rattle.dir_rows.specs.Rows.{dirs_of};
 ghost use Rattle.pool_state.specs.State.{bufs, view, IsPool};
 ghost use Rattle.row_order.specs.Spans.{SpanInside, AllInside, spelled, slot_of};
@@ -14,8 +14,8 @@ ghost use Rattle.output.specs.Writer.{Puts, PutsAll};
 ghost use Rattle.line_dump.specs.Dump.{path_end, file_numbers, file_line, dir_line, files_text, dirs_text, dump_text};
 ghost use Rattle.line_dump.specs.Dump.{dump_answer, SlotsBelow};
 
-use limits::MAX_PATH;
 use pool_state::Pool;
+use slot_rows::Rows;
 
 // A space, a path, and the line's end.
 fn put_path(out: &mut [u8], at: usize, path: &[u8]) -> usize
@@ -47,64 +47,39 @@ fn put_numbers(
 }
 
 // The line of the file in slot i.
-fn put_file(
-    nums: &[u64],
-    names: &[u8],
-    cap: usize,
-    n: usize,
-    i: usize,
-    out: &mut [u8],
-    at: usize,
-) -> usize
-    requires { Flat cap n nums.now names.now × (i < n) × (at + 600 < 2 ^ 64) }
-    ensures { Puts (file_line (rows_of nums.now names.now n) i) out.old out.new at result }
+fn put_file(rows: &Rows, i: usize, out: &mut [u8], at: usize) -> usize
+    requires { Lie rows.now × (i < rows.now.n) × (at + 600 < 2 ^ 64) }
+    ensures { Puts (file_line (held rows.now) i) out.old out.new at result }
 {
-    let start = i * MAX_PATH;
-    let end = start + slot_rows::path_len(nums, names, cap, n, i);
-    let generation = slot_rows::row_generation(nums, names, cap, n, i);
-    let len = slot_rows::row_len(nums, names, cap, n, i);
-    let dirty = u64::from(slot_rows::is_dirty(nums, names, cap, n, i));
+    let generation = rows.row_generation(i);
+    let len = rows.row_len(i);
+    let dirty = u64::from(rows.is_dirty(i));
     let a = put_numbers(i, generation, len, dirty, out, at);
-    put_path(out, a, &names[start..end])
+    put_path(out, a, rows.path(i))
 }
 
 // The lines of files, in the order of their spans.
-fn put_files(
-    nums: &[u64],
-    names: &[u8],
-    cap: usize,
-    n: usize,
-    spans: &[u32],
-    out: &mut [u8],
-    at: usize,
-) -> usize
-    requires { Flat cap n nums.now names.now × SlotsBelow n spans.now × (at + length spans.now * 600 < 2 ^ 64) }
-    ensures { Puts (cat (λ x. file_line (rows_of nums.now names.now n) (slot_of x)) spans.now) out.old out.new at result }
+fn put_files(rows: &Rows, spans: &[u32], out: &mut [u8], at: usize) -> usize
+    requires { Lie rows.now × SlotsBelow rows.now.n spans.now × (at + length spans.now * 600 < 2 ^ 64) }
+    ensures { Puts (cat (λ x. file_line (held rows.now) (slot_of x)) spans.now) out.old out.new at result }
 {
     let mut a = at;
     for x in spans {
-        a = put_file(nums, names, cap, n, row_order::slot_of(*x), out, a);
+        a = put_file(rows, row_order::slot_of(*x), out, a);
     }
     a
 }
 
 // The lines of all files.
-fn put_all_files(
-    nums: &[u64],
-    names: &[u8],
-    cap: usize,
-    n: usize,
-    out: &mut [u8],
-    at: usize,
-) -> usize
-    requires { Flat cap n nums.now names.now × (n ≤ 64) × (at + 38400 < 2 ^ 64) }
-    ensures { Puts (files_text (rows_of nums.now names.now n)) out.old out.new at result }
+fn put_all_files(rows: &Rows, out: &mut [u8], at: usize) -> usize
+    requires { Lie rows.now × (rows.now.n ≤ 64) × (at + 38400 < 2 ^ 64) }
+    ensures { Puts (files_text (held rows.now)) out.old out.new at result }
 {
     let mut spans = [0u32; 64];
-    let count = row_order::all_files(nums, names, cap, n, &mut spans);
-    let held = &mut spans[..count];
-    row_order::sort(names, held);
-    put_files(nums, names, cap, n, held, out, at)
+    let count = row_order::all_files(rows, &mut spans);
+    let files = &mut spans[..count];
+    row_order::sort(rows.names, files);
+    put_files(rows, files, out, at)
 }
 
 // The line of the directory whose spelling is the part x.
@@ -147,11 +122,15 @@ fn put_pool(nums: &[u64], names: &[u8], dirs: &[u8], pool: Pool, out: &mut [u8])
     requires { IsPool (bufs pool nums.now names.now dirs.now) }
     ensures { PutsAll (dump_text (view (bufs pool nums.now names.now dirs.now))) out.old out.new result }
 {
-    let cap = pool.chosen.rows;
-    let n = pool.held;
     let m = pool.dirs;
     let free = pool.free;
-    let a = put_all_files(nums, names, cap, n, out, 0);
+    let rows = Rows {
+        nums,
+        names,
+        cap: pool.chosen.rows,
+        n: pool.held,
+    };
+    let a = put_all_files(&rows, out, 0);
     let b = put_all_dirs(dirs, m, out, a);
     let c = output::put_bytes(out, b, b"free");
     let d = line_answers::put_number(out, c, free as u64);

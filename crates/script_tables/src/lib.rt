@@ -8,7 +8,7 @@ ghost use Rattle.lists.specs.Blocks.{cat};
 ghost use Rattle.lists.specs.Runs.{range};
 ghost use Rattle.lists.specs.Sort.{sort};
 ghost use Rattle.le.specs.Le.{le};
-ghost use Rattle.slot_rows.specs.Rows.{rows_of, Flat};
+ghost use Rattle.slot_rows.specs.Held.{held, Lie};
 ghost use Rattle.dir_rows.specs.Rows.{dirs_of};
 ghost use Rattle.device.specs.Device.{dev};
 ghost use Rattle.pool_state.specs.State.{bufs, view, IsPool};
@@ -17,8 +17,8 @@ ghost use Rattle.output.specs.Writer.{Puts, run_of};
 ghost use Rattle.script_tables.specs.Tables.{weight, marks_at, row_shown, dirs_shown, pool_shown, record_shown, device_shown};
 
 use device::Place;
-use limits::MAX_PATH;
 use pool_state::Pool;
+use slot_rows::Rows;
 
 // ---- slot rows
 
@@ -30,59 +30,40 @@ fn weigh(flag: bool, x: u64) -> u64
 }
 
 // The marks of slot row i: bound, in the queue, dirty.
-fn marks(nums: &[u64], names: &[u8], cap: usize, n: usize, i: usize, queue: &[u8]) -> u64
-    requires { Flat cap n nums.now names.now × (i < n) }
-    ensures { result ≡ marks_at queue.now (rows_of nums.now names.now n) i }
+fn marks(rows: &Rows, i: usize, queue: &[u8]) -> u64
+    requires { Lie rows.now × (i < rows.now.n) }
+    ensures { result ≡ marks_at queue.now (held rows.now) i }
 {
-    let bound = weigh(slot_rows::is_bound(nums, names, cap, n, i), 1);
+    let bound = weigh(rows.is_bound(i), 1);
     let queued = weigh(queue.iter().any(|x| usize::from(*x) == i), 2);
-    let dirty = weigh(slot_rows::is_dirty(nums, names, cap, n, i), 4);
+    let dirty = weigh(rows.is_dirty(i), 4);
     bound + queued + dirty
 }
 
 // Slot row i.
-fn put_row(
-    nums: &[u64],
-    names: &[u8],
-    cap: usize,
-    n: usize,
-    i: usize,
-    queue: &[u8],
-    out: &mut [u8],
-    at: usize,
-) -> usize
-    requires { Flat cap n nums.now names.now × (i < n) × (at < 2 ^ 62) }
-    ensures row { Puts (row_shown queue.now (rows_of nums.now names.now n) i) out.old out.new at result }
+fn put_row(rows: &Rows, i: usize, queue: &[u8], out: &mut [u8], at: usize) -> usize
+    requires { Lie rows.now × (i < rows.now.n) × (at < 2 ^ 62) }
+    ensures row { Puts (row_shown queue.now (held rows.now) i) out.old out.new at result }
     ensures few { result ≤ at + 512 }
 {
-    let m = marks(nums, names, cap, n, i, queue);
-    let g = slot_rows::row_generation(nums, names, cap, n, i);
-    let l = slot_rows::row_len(nums, names, cap, n, i);
-    let k = slot_rows::path_len(nums, names, cap, n, i);
-    let from = i * MAX_PATH;
+    let m = marks(rows, i, queue);
+    let g = rows.row_generation(i);
+    let l = rows.row_len(i);
     let a = output::put_le(out, at, 1, m);
     let b = output::put_le(out, a, 8, g);
     let c = output::put_le(out, b, 8, l);
-    output::put_run(out, c, &names[from..from + k])
+    output::put_run(out, c, rows.path(i))
 }
 
-// The first n slot rows.
-fn put_rows(
-    nums: &[u64],
-    names: &[u8],
-    cap: usize,
-    n: usize,
-    queue: &[u8],
-    out: &mut [u8],
-    at: usize,
-) -> usize
-    requires { Flat cap n nums.now names.now × (n ≤ 64) × (at < 2 ^ 61) }
-    ensures rows { Puts (cat (row_shown queue.now (rows_of nums.now names.now n)) (range 0 n)) out.old out.new at result }
-    ensures few { result ≤ at + n * 512 }
+// All slot rows.
+fn put_rows(rows: &Rows, queue: &[u8], out: &mut [u8], at: usize) -> usize
+    requires { Lie rows.now × (rows.now.n ≤ 64) × (at < 2 ^ 61) }
+    ensures rows { Puts (cat (row_shown queue.now (held rows.now)) (range 0 rows.now.n)) out.old out.new at result }
+    ensures few { result ≤ at + rows.now.n * 512 }
 {
     let mut a = at;
-    for i in 0..n {
-        a = put_row(nums, names, cap, n, i, queue, out, a);
+    for i in 0..rows.n {
+        a = put_row(rows, i, queue, out, a);
     }
     a
 }
@@ -141,13 +122,18 @@ fn put_pool(nums: &[u64], names: &[u8], dirs: &[u8], pool: Pool, out: &mut [u8],
     ensures pool { Puts (pool_shown (view (bufs pool nums.now names.now dirs.now))) out.old out.new at result }
     ensures few { result ≤ at + 300000 }
 {
-    let cap = pool.chosen.rows;
     let n = pool.held;
     let free = pool.free;
     let q = pool.queue;
+    let rows = Rows {
+        nums,
+        names,
+        cap: pool.chosen.rows,
+        n,
+    };
     let a = output::put_le(out, at, 8, pool.counter);
     let b = output::put_le(out, a, 1, n as u64);
-    let c = put_rows(nums, names, cap, n, &q[..free], out, b);
+    let c = put_rows(&rows, &q[..free], out, b);
     let d = output::put_le(out, c, 1, free as u64);
     let e = output::put_bytes(out, d, &q[..free]);
     put_dirs(dirs, pool.dirs, out, e)

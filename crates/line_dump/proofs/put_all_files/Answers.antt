@@ -10,24 +10,24 @@ pub slice_bounds-spans-end : goal.slice_bounds-spans-end
 slice_bounds-spans-end c =
     (files_front _ _ _ _ c.requires.0 (replicate 64 0) _ _ c.all_files-count.ensures.0 c.all_files-count.ensures.1 c.requires.1).0
 
-pub slice_bounds-held-end : goal.slice_bounds-held-end
-slice_bounds-held-end c =
+pub slice_bounds-files-end : goal.slice_bounds-files-end
+slice_bounds-files-end c =
     let f = files_front _ _ _ _ c.requires.0 (replicate 64 0) _ _ c.all_files-count.ensures.0 c.all_files-count.ensures.1 c.requires.1 in
     omega (arith, c.all_files-count.ensures.0, ap length f.1)
 
 pub sort-requires : goal.sort-requires
 sort-requires c =
     let f = files_front _ _ _ _ c.requires.0 (replicate 64 0) _ _ c.all_files-count.ensures.0 c.all_files-count.ensures.1 c.requires.1 in
-    subst (λ (x : List ℕ). AllInside c.args.names.now x) (sym f.1) (files_inside _ _ _ _ c.requires.0)
+    subst (λ (x : List ℕ). AllInside c.args.rows.now.names.now x) (sym f.1) (files_inside _ _ _ _ c.requires.0)
 
 pub put_files-requires : goal.put_files-requires
 put_files-requires c =
     let f = files_front _ _ _ _ c.requires.0 (replicate 64 0) _ _ c.all_files-count.ensures.0 c.all_files-count.ensures.1 c.requires.1 in
-    let e = c.sort.ensures ∙ ap (sort (span_before c.args.names.now)) f.1 in
+    let e = c.sort.ensures ∙ ap (sort (span_before c.args.rows.now.names.now)) f.1 in
     (c.requires.0, sorted_held _ _ _ _ c.requires.0 e, omega (arith, c.requires.2, sorted_few _ _ _ _ c.requires.0 e))
 
 pub returns : goal.returns
 returns c =
     let f = files_front _ _ _ _ c.requires.0 (replicate 64 0) _ _ c.all_files-count.ensures.0 c.all_files-count.ensures.1 c.requires.1 in
-    let e = c.sort.ensures ∙ ap (sort (span_before c.args.names.now)) f.1 in
+    let e = c.sort.ensures ∙ ap (sort (span_before c.args.rows.now.names.now)) f.1 in
     files_put _ _ _ _ c.requires.0 e _ c.put_files.ensures

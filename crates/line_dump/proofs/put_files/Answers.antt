@@ -1,6 +1,6 @@
 -- The invariant: what is left to put out makes the whole. `cat_turn` passes a line.
 use Rattle.std.proofs.Common.{ℕ, ap, ◌∙◌, get_or, arith}
-use Rattle.slot_rows.specs.Rows.{rows_of}
+use Rattle.slot_rows.specs.Held.{held}
 use Rattle.output.specs.Writer.{shown, pours}
 use Rattle.output.proofs.InParts.{after_pours, cat_turn, cat_end}
 use Rattle.row_order.specs.Spans.{slot_of}
@@ -10,13 +10,13 @@ use Rattle.line_dump.proofs.put_files.Goals as goal
 
 pub put_file-a-requires : goal.put_file-a-requires
 put_file-a-requires c =
-    (c.requires.0, rw c.slot_of.ensures (held_get c.args.n c.args.spans.now c.loop-x.x-index c.requires.1 (omega arith)), omega arith)
+    (c.requires.0, rw c.slot_of.ensures (held_get c.args.rows.now.n c.args.spans.now c.loop-x.x-index c.requires.1 (omega arith)), omega arith)
 
 pub loop-x-preserved : goal.loop-x-preserved
 loop-x-preserved c =
     let l = c.loop-x in
     let s = c.args.spans.now in
-    let w = rows_of c.args.nums.now c.args.names.now c.args.n in
+    let w = held c.args.rows.now in
     let o = shown l.out l.a in
     let e = c.put_file-a.ensures ∙ ap (λ (i : ℕ). pours (file_line w i) o) c.slot_of.ensures in
     record {

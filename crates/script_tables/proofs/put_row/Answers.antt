@@ -1,25 +1,16 @@
 -- Carried by `row_is`: the marks, the generation, the length and the path's run of one row.
 use mathlib.Core.Path.{◌∙◌, ap}
 use mathlib.Core.List.{List, ◌++◌}
-use Prim.Native.Nat.{ℕ, ◌*◌, ◌+◌, ◌-◌}
-use lib.ListN.{length, take, drop}
-use Rattle.limits.specs.Limits.{max_path}
+use Prim.Native.Nat.{ℕ}
+use lib.ListN.{length}
 use Rattle.le.specs.Le.{le}
 use Rattle.le.proofs.Fields.{length_le}
-use Rattle.slot_rows.proofs.InBuffers.{name_part}
-use Rattle.slot_rows.specs.Rows.{rows_of}
+use Rattle.slot_rows.specs.Held.{held}
 use Rattle.output.specs.Writer.{shown, pours, run_of}
 use Rattle.output.proofs.InParts.{after_pours, pours_then}
 use Rattle.script_tables.proofs.Turns.{row_is, length_run}
 use native.Mathlib.Omega.{arith}
 use Rattle.script_tables.proofs.put_row.Goals as goal
-
-pub overflow_mul-from : goal.overflow_mul-from
-overflow_mul-from c =
-    omega (
-      arith,
-      ((name_part _ _ _ _ c.requires.0 c.args.i c.requires.1 _ c.path_len-k.ensures).0),
-    )
 
 pub put_le-b-requires : goal.put_le-b-requires
 put_le-b-requires c =
@@ -39,23 +30,8 @@ put_le-c-requires c =
       (length_le 8 c.row_generation-g.result),
     )
 
-pub overflow_add-from : goal.overflow_add-from
-overflow_add-from c =
-    omega (
-      arith,
-      ((name_part _ _ _ _ c.requires.0 c.args.i c.requires.1 _ c.path_len-k.ensures).0),
-    )
-
-pub slice_bounds-put_run-end : goal.slice_bounds-put_run-end
-slice_bounds-put_run-end c =
-    omega (
-      arith,
-      ((name_part _ _ _ _ c.requires.0 c.args.i c.requires.1 _ c.path_len-k.ensures).0),
-    )
-
 pub put_run-requires : goal.put_run-requires
 put_run-requires c =
-    let n = name_part _ _ _ _ c.requires.0 c.args.i c.requires.1 _ c.path_len-k.ensures in
     omega (
       arith,
       (after_pours _ _ c.put_le-a.ensures),
@@ -64,16 +40,14 @@ put_run-requires c =
       (length_le 8 c.row_generation-g.result),
       after_pours _ _ c.put_le-c.ensures,
       (length_le 8 c.row_len-l.result),
-      ap length n.1,
+      ap length c.path.ensures,
       (c.requires.0.short c.args.i),
     )
 
 pub returns : goal.returns
 returns c =
-    let n = name_part _ _ _ _ c.requires.0 c.args.i c.requires.1 _ c.path_len-k.ensures in
-    let rs = rows_of c.args.nums.now c.args.names.now c.args.n in
-    let p : List ℕ = take (c.args.i * max_path + c.path_len-k.result - c.args.i * max_path)
-    (drop (c.args.i * max_path) c.args.names.now) in record {
+    let rs = held c.args.rows.now in
+    let p : List ℕ = c.path.result.now in record {
       row = pours_then (le 1 c.marks-m.result)
           (le 8 c.row_generation-g.result ++ le 8 c.row_len-l.result ++ run_of p)
           (shown c.args.out.now c.args.at) c.put_le-a.ensures
@@ -83,7 +57,7 @@ returns c =
           c.put_run.ensures))
           ∙ ap (λ (t : List ℕ). pours t (shown c.args.out.now c.args.at))
           (row_is c.args.queue.now rs c.args.i _ _ _ p c.marks-m.ensures
-          c.row_generation-g.ensures c.row_len-l.ensures n.1);
+          c.row_generation-g.ensures c.row_len-l.ensures c.path.ensures);
       few = omega (
         arith,
         after_pours _ _ c.put_le-a.ensures,
@@ -94,7 +68,7 @@ returns c =
         length_le 8 c.row_len-l.result,
         after_pours _ _ c.put_run.ensures,
         length_run p,
-        ap length n.1,
+        ap length c.path.ensures,
         c.requires.0.short c.args.i,
       );
     }
