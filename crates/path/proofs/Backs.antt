@@ -1,12 +1,16 @@
 -- Laws of the walk from the back.
-use Rattle.std.proofs.Common.{◌≡◌, ℕ, zero, suc, ◌+◌, ◌-◌, ◌<◌, ◌≤◌, true, false, cond, ◌⊎◌, List, [], ◌∷◌, ◌++◌, length, get_or, take, drop, sym, refl, ap, ◌∙◌, subst, inl, inr, ⊎_elim, append_assoc, append-nil, arith, length-append, take-append-drop, length-take, length-drop, length-take-le, take_all, take-suc, take-take, take-add, le-ltb, lt-ltb, eq-eqb, ne_eqb}
+use Rattle.std.specs.Prelude.{None, Option, Some}
+use Rattle.std.specs.Option.{is_some}
+use mathlib.Core.Bool.{false≢true}
+use Rattle.std.proofs.Common.{◌≡◌, ℕ, zero, suc, ◌+◌, ◌-◌, ◌<◌, ◌≤◌, Bool, true, false, cond, not, ◌⊎◌, List, [], ◌∷◌, ◌++◌, length, get_or, take, drop, sym, refl, ap, ◌∙◌, subst, inl, inr, ⊎_elim, append_assoc, append-nil, arith, length-append, take-append-drop, length-take, length-drop, length-take-le, take_all, take-suc, take-take, take-add, eq-eqb, ne_eqb}
 use lib.Seq.{get_or-drop}
 use Rattle.std.proofs.lemmas.List.{get_or-take}
 use Rattle.le.proofs.Parts.{part_append}
 use Rattle.lists.specs.Fronts.{drop_take}
 use Rattle.lists.specs.Same.{same, same_bytes, same_snoc, same_length}
 use Rattle.path.specs.Path.{idle, names, split, components, same_path}
-use Rattle.path.specs.Walk.{rest, Free, Starts, ended, Last}
+use Rattle.path.specs.declared.Part.{Part}
+use Rattle.path.specs.Walk.{rest, Free, Starts, Last, LastOf}
 use Rattle.path.proofs.Parts.{components_append, components_one, rest_one, rest_nil, split_one}
 
 -- ---- the start of a part
@@ -103,21 +107,13 @@ module _ (s : List ℕ) (a e : ℕ) (w : Starts s e a) (l : e ≤ length s) wher
 
 -- ---- the last component
 
-ended_some : (s : List ℕ) (a e : ℕ) → a < e → ended s a e ≡ components (take a s) ++ take (e - a) (drop a s) ∷ []
-unfolding ended
-ended_some s a e h = rw (lt-ltb a e h)
-
-ended_none : (s : List ℕ) (a e : ℕ) → a ≡ e → ended s a e ≡ []
-unfolding ended
-ended_none s a e h = rw (le-ltb a e (omega arith))
-
 pub last_start : (s : List ℕ) → components s ≡ components (take (length s) s)
 last_start s = ap components (sym (take_all (length s) s (omega arith)))
 
-pub last_empty : (s : List ℕ) (e : ℕ) → components s ≡ components (take e s) → e ≤ 0 → Last s 0 0
+pub last_empty : (s : List ℕ) (e : ℕ) → components s ≡ components (take e s) → e ≤ 0 → components s ≡ []
 last_empty s e m z =
     let q : e ≡ 0 = omega arith in
-    record { ordered = omega arith; inside = omega arith; edge = inl refl; gives = m ∙ ap (λ (k : ℕ). components (take k s)) q ∙ components_none ∙ sym (ended_none s 0 0 refl) }
+    m ∙ ap (λ (k : ℕ). components (take k s)) q ∙ components_none
 
 one : (b : ℕ) (t : List ℕ) → b ≡ 47 → components (b ∷ []) ≡ components [] ++ (b ∷ []) ∷ []
 unfolding components names split idle
@@ -127,7 +123,7 @@ pub last_root : (s : List ℕ) (e : ℕ) → components s ≡ components (take e
 last_root [] e m z l q = absurd (omega arith)
 last_root (b ∷ t) e m z l q =
     let h : b ≡ 47 = subst (λ (k : ℕ). get_or (b ∷ t) (k - 1) 0 ≡ 47) z q in
-    record { ordered = omega arith; inside = l; edge = inl refl; gives = m ∙ ap (λ (k : ℕ). components (take k (b ∷ t))) z ∙ one b t h ∙ sym (ended_some (b ∷ t) 0 1 (omega arith)) }
+    record { some = omega arith; inside = l; edge = inl refl; gives = m ∙ ap (λ (k : ℕ). components (take k (b ∷ t))) z ∙ one b t h }
 
 single : (p : List ℕ) → Free p → 0 < length p → components p ≡ p ∷ []
 single [] f h = absurd (omega arith)
@@ -140,71 +136,68 @@ module _ (s : List ℕ) (a e : ℕ) (m : components s ≡ components (take e s))
       let k : e ≡ e - 0 = omega arith in
       let n : length (take (e - 0) s) ≡ e - 0 = length-take-le (e - 0) s (omega arith) in
       record {
-        ordered = omega arith;
+        some = omega arith;
         inside = l;
         edge = inl refl;
         gives = m ∙ ap (λ (k : ℕ). components (take k s)) k ∙ single (take (e - 0) s) f (omega arith)
-            ∙ sym (ended_some s 0 e (omega arith) ∙ ap (λ (cs : List (List ℕ)). cs ++ take (e - 0) s ∷ []) components_none);
+            ∙ sym (ap (λ (cs : List (List ℕ)). cs ++ take (e - 0) s ∷ []) components_none);
       }
 
   pub last_name : (a ≡ 0 → ⊥) → idle (take (e - a) (drop a s)) ≡ false → Last s a e
-  last_name z n = record { ordered = omega arith; inside = l; edge = w.edge; gives = m ∙ back_name s a e w l (omega arith) n ∙ sym (ended_some s a e h) }
+  last_name z n = record { some = h; inside = l; edge = w.edge; gives = m ∙ back_name s a e w l (omega arith) n }
 
 -- ---- two walks side by side
-
-pub last_none : (s : List ℕ) (a e : ℕ) → Last s a e → a ≡ e → components s ≡ []
-last_none s a e n q = n.gives ∙ ended_none s a e q
-
-pub last_some : (s : List ℕ) (a e : ℕ) → Last s a e → (a ≡ e → ⊥) → components s ≡ components (take a s) ++ take (e - a) (drop a s) ∷ []
-last_some s a e n q = n.gives ∙ ended_some s a e (omega (arith, n.ordered))
 
 -- in a front of a text, which was lent
 module _ (a : List ℕ) (i s e : ℕ) (h : i ≤ length a) (n : Last (take i a) s e) where
   pub part_inside : e ≤ i
   part_inside = omega (arith, n.inside, length-take-le i a h)
 
-  front_last : (s ≡ e → ⊥) → components (take i a) ≡ components (take s a) ++ take (e - s) (drop s a) ∷ []
-  front_last q =
-      let o = n.ordered in
+  front_last : components (take i a) ≡ components (take s a) ++ take (e - s) (drop s a) ∷ []
+  front_last =
+      let o = n.some in
       let l = length-take-le i a h in
       let t : take s (take i a) ≡ take s a = take-take s i a (omega (arith, part_inside)) in
       let u : take (e - s) (drop s (take i a)) ≡ take (e - s) (drop s a) =
       sym (part_append (take i a) (drop i a) s (e - s) (omega (arith, part_inside))) ∙ ap (λ (x : List ℕ). take (e - s) (drop s x)) (take-append-drop i a) in
-      last_some (take i a) s e n q ∙ rw (t, u)
+      n.gives ∙ rw (t, u)
 
 -- components with a last one are some
 more : (cs : List (List ℕ)) (c : List ℕ) → length (cs ++ c ∷ []) ≡ 0 → ⊥
 more cs c x = omega (arith, length-append cs (c ∷ []))
 
-pub same_start : (a b : List ℕ) → same_path a b ≡ same_path (take (length a) a) (take (length b) b)
-same_start a b = rw (take_all (length a) a (omega arith), take_all (length b) b (omega arith))
+off : (t : Bool) → false ≡ not t → t ≡ true
+off true e = refl
+off false e = absurd (false≢true e)
+
+on : (t : Bool) → true ≡ not t → t ≡ false
+on true e = absurd (false≢true (sym e))
+on false e = refl
+
+module _ (a b : List ℕ) (i j : ℕ) (w : same_path a b ≡ same_path (take i a) (take j b)) where
+  pub same_end : components (take i a) ≡ [] → (r : Option Part) → LastOf (take j b) r → (t : Bool) → is_some r ≡ not t → t ≡ same_path a b
+  unfolding same_path same
+  same_end m None n t e = off t e ∙ sym (w ∙ rw (m, n))
+  same_end m (Some q) n t e =
+      on t e ∙ sym (w ∙ rw (m, n.gives)
+      (same_length same_bytes [] _ (λ x. more (components (take q.start (take j b))) (take (q.stop - q.start) (drop q.start (take j b))) (sym x))))
+
+  pub same_shorter : (s e : ℕ) → Last (take i a) s e → components (take j b) ≡ [] → false ≡ same_path a b
+  unfolding same_path
+  same_shorter s e m n =
+      sym (w ∙ rw (m.gives, n)
+      (same_length same_bytes _ [] (more (components (take s (take i a))) (take (e - s) (drop s (take i a))))))
 
 module _ (a b : List ℕ) (i j s e t f : ℕ) (h : i ≤ length a) (k : j ≤ length b) (m : Last (take i a) s e) (n : Last (take j b) t f)
     (w : same_path a b ≡ same_path (take i a) (take j b)) where
-  pub same_done : s ≡ e → t ≡ f → true ≡ same_path a b
-  unfolding same_path same
-  same_done p q = sym (w ∙ rw (last_none (take i a) s e m p, last_none (take j b) t f n q))
-
-  pub same_longer : s ≡ e → (t ≡ f → ⊥) → false ≡ same_path a b
+  turn : same_path a b ≡ cond (same_bytes (take (e - s) (drop s a)) (take (f - t) (drop t b))) (same_path (take s a) (take t b)) false
   unfolding same_path
-  same_longer p q =
-      sym (w ∙ rw (last_none (take i a) s e m p, front_last b j t f k n q)
-      (same_length same_bytes [] (components (take t b) ++ take (f - t) (drop t b) ∷ []) (λ x. more (components (take t b)) (take (f - t) (drop t b)) (sym x))))
-
-  pub same_shorter : (s ≡ e → ⊥) → t ≡ f → false ≡ same_path a b
-  unfolding same_path
-  same_shorter p q =
-      sym (w ∙ rw (front_last a i s e h m p, last_none (take j b) t f n q)
-      (same_length same_bytes (components (take s a) ++ take (e - s) (drop s a) ∷ []) [] (more (components (take s a)) (take (e - s) (drop s a)))))
-
-  turn : (s ≡ e → ⊥) → (t ≡ f → ⊥) → same_path a b ≡ cond (same_bytes (take (e - s) (drop s a)) (take (f - t) (drop t b))) (same_path (take s a) (take t b)) false
-  unfolding same_path
-  turn p q =
-      w ∙ rw (front_last a i s e h m p, front_last b j t f k n q)
+  turn =
+      w ∙ rw (front_last a i s e h m, front_last b j t f k n)
       (same_snoc same_bytes (components (take s a)) (components (take t b)) (take (e - s) (drop s a)) (take (f - t) (drop t b)))
 
-  pub same_differ : (s ≡ e → ⊥) → (t ≡ f → ⊥) → same_bytes (take (e - s) (drop s a)) (take (f - t) (drop t b)) ≡ false → false ≡ same_path a b
-  same_differ p q r = sym (turn p q ∙ rw r)
+  pub same_differ : same_bytes (take (e - s) (drop s a)) (take (f - t) (drop t b)) ≡ false → false ≡ same_path a b
+  same_differ r = sym (turn ∙ rw r)
 
-  pub same_on : (s ≡ e → ⊥) → (t ≡ f → ⊥) → same_bytes (take (e - s) (drop s a)) (take (f - t) (drop t b)) ≡ true → same_path a b ≡ same_path (take s a) (take t b)
-  same_on p q r = turn p q ∙ rw r
+  pub same_on : same_bytes (take (e - s) (drop s a)) (take (f - t) (drop t b)) ≡ true → same_path a b ≡ same_path (take s a) (take t b)
+  same_on r = turn ∙ rw r

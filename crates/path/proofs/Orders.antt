@@ -1,16 +1,19 @@
 -- Laws of the order of normal spellings, along a walk of both.
 use Rattle.std.specs.declared.cmp.Ordering.{Ordering}
 use Rattle.std.specs.declared.cmp.Ordering.TheVariants.{Equal, Greater, Less}
-use Rattle.std.proofs.Common.{◌≡◌, ℕ, ◌+◌, ◌-◌, ◌<◌, ◌≤◌, min, Bool, true, false, cond, not, eqb, ltb, ◌⊎◌, List, [], ◌∷◌, ◌++◌, length, get_or, take, drop, sym, refl, ap, ◌∙◌, subst, inl, inr, add-one, arith, drop_of_length-le, drop-cons, ltb-false, ltb-true, lt-ltb, eqb-true, ne_eqb}
+use Rattle.std.specs.Prelude.{None, Option, Some}
+use Rattle.std.specs.Option.{is_some}
+use Rattle.std.proofs.Common.{◌≡◌, ℕ, ◌+◌, ◌-◌, ◌<◌, ◌≤◌, min, Bool, true, false, cond, not, eqb, ltb, ◌⊎◌, List, [], ◌∷◌, ◌++◌, length, get_or, take, drop, sym, refl, ap, ◌∙◌, subst, inl, inr, add-one, arith, drop_of_length-le, drop-cons, ltb-false, ltb-true, lt-ltb, ne_eqb}
 use Rattle.std.specs.Ordering.{nat_cmp}
 use mathlib.Core.Bool.{false≢true}
 use borrow.Author.Tests.{eqb-false}
 use Rattle.lists.specs.Same.{same_bytes, same_bytes_eq, same_bytes_refl}
 use Rattle.lists.specs.Order.{and_then, cmp_nat, lex, byte_order, nat_less, nat_greater, nat_orders, equal_cases, lex_append}
 use Rattle.path.specs.Path.{is_root, slash, join, normal, path_order}
-use Rattle.path.specs.Walk.{left, Next, Free, name_order}
+use Rattle.path.specs.declared.Part.{Part}
+use Rattle.path.specs.Walk.{left, Next, NextOf, Free, name_order}
 use Rattle.path.proofs.Parts.{First, Formed, no_root}
-use Rattle.path.proofs.Walks.{left_formed, next_none, next_some}
+use Rattle.path.proofs.Walks.{left_formed}
 
 -- ---- two names, at a place of both
 
@@ -164,36 +167,27 @@ some_greater true (b ∷ c) cs f = refl
 some_greater false (b ∷ c) cs f = refl
 
 -- whether more components follow
-some_left : (s : List ℕ) (i a e : ℕ) → Next s i a e → not (eqb a e) ≡ some (left s i)
-some_left s i a e n = go (eqb a e) refl
-  where
-    go : (t : Bool) → eqb a e ≡ t → not t ≡ some (left s i)
-    go true h = rw (next_none s i a e n (eqb-true a e h))
-    go false h = rw (next_some s i a e n (eqb-false a e h))
+some_left : (s : List ℕ) (i : ℕ) (r : Option Part) → NextOf s i r → is_some r ≡ some (left s i)
+some_left s i None n = rw n
+some_left s i (Some p) n = rw n.gives
 
-module _ (a b : List ℕ) (i j s e t f : ℕ) (m : Next a i s e) (n : Next b j t f) (w : Bool)
-    (v : path_order a b ≡ byte_order (join w (left a i)) (join w (left b j))) where
-  pub cmp_done : s ≡ e → t ≡ f → Equal ≡ path_order a b
+module _ (a b : List ℕ) (i j : ℕ) (w : Bool) (v : path_order a b ≡ byte_order (join w (left a i)) (join w (left b j))) where
+  pub cmp_end : left a i ≡ [] → (r : Option Part) → NextOf b j r → (t : Bool) → is_some r ≡ t → cond t Less Equal ≡ path_order a b
   unfolding lex join
-  cmp_done p q = sym (v ∙ rw (next_none a i s e m p, next_none b j t f n q))
+  cmp_end p None n t e = sym (v ∙ rw (← e, p, n))
+  cmp_end p (Some q) n t e =
+      let g : Formed (take (q.stop - q.start) (drop q.start b) ∷ left b q.stop) = subst Formed n.gives (left_formed b j) in
+      rw (← e) (sym (v ∙ ap (λ (cs : List (List ℕ)). byte_order (join w cs) (join w (left b j))) p
+      ∙ ap (λ (cs : List (List ℕ)). byte_order [] (join w cs)) n.gives ∙ none_less w (take (q.stop - q.start) (drop q.start b)) (left b q.stop) g.0))
 
-  pub cmp_less : s ≡ e → (t ≡ f → ⊥) → Less ≡ path_order a b
+  pub cmp_greater : (s e : ℕ) → Next a i s e → left b j ≡ [] → Greater ≡ path_order a b
   unfolding join
-  cmp_less p q =
-      let x = next_some b j t f n q in
-      let g : Formed (take (f - t) (drop t b) ∷ left b f) = subst Formed x (left_formed b j) in
-      sym (v ∙ ap (λ (cs : List (List ℕ)). byte_order (join w cs) (join w (left b j))) (next_none a i s e m p)
-      ∙ ap (λ (cs : List (List ℕ)). byte_order [] (join w cs)) x ∙ none_less w (take (f - t) (drop t b)) (left b f) g.0)
+  cmp_greater s e m q =
+      let g : Formed (take (e - s) (drop s a) ∷ left a e) = subst Formed m.gives (left_formed a i) in
+      sym (v ∙ ap (λ (cs : List (List ℕ)). byte_order (join w (left a i)) (join w cs)) q
+      ∙ ap (λ (cs : List (List ℕ)). byte_order (join w cs) []) m.gives ∙ some_greater w (take (e - s) (drop s a)) (left a e) g.0)
 
-  pub cmp_greater : (s ≡ e → ⊥) → t ≡ f → Greater ≡ path_order a b
-  unfolding join
-  cmp_greater p q =
-      let x = next_some a i s e m p in
-      let g : Formed (take (e - s) (drop s a) ∷ left a e) = subst Formed x (left_formed a i) in
-      sym (v ∙ ap (λ (cs : List (List ℕ)). byte_order (join w (left a i)) (join w cs)) (next_none b j t f n q)
-      ∙ ap (λ (cs : List (List ℕ)). byte_order (join w cs) []) x ∙ some_greater w (take (e - s) (drop s a)) (left a e) g.0)
-
-  module _ (p : s ≡ e → ⊥) (q : t ≡ f → ⊥) where
+  module _ (s e t f : ℕ) (m : Next a i s e) (n : Next b j t f) where
     abbrev c : List ℕ
     c = take (e - s) (drop s a)
 
@@ -202,14 +196,14 @@ module _ (a b : List ℕ) (i j s e t f : ℕ) (m : Next a i s e) (n : Next b j t
 
     here : path_order a b ≡ byte_order (c ++ join (not (is_root c)) (left a e)) (d ++ join (not (is_root d)) (left b f))
     unfolding join
-    here = v ∙ rw (next_some a i s e m p, next_some b j t f n q) (lex_append cmp_nat nat_orders (slash w) _ _)
+    here = v ∙ rw (m.gives, n.gives) (lex_append cmp_nat nat_orders (slash w) _ _)
 
-    pub cmp_differ : (x y z u : ℕ) → Next a e x y → Next b f z u → same_bytes c d ≡ false → name_order (not (eqb x y)) c (not (eqb z u)) d ≡ path_order a b
-    cmp_differ x y z u k l r =
-        let g : Formed (c ∷ left a e) = subst Formed (next_some a i s e m p) (left_formed a i) in
-        let h : Formed (d ∷ left b f) = subst Formed (next_some b j t f n q) (left_formed b j) in
+    pub cmp_differ : (x y : Option Part) → NextOf a e x → NextOf b f y → same_bytes c d ≡ false → name_order (is_some x) c (is_some y) d ≡ path_order a b
+    cmp_differ x y k l r =
+        let g : Formed (c ∷ left a e) = subst Formed m.gives (left_formed a i) in
+        let h : Formed (d ∷ left b f) = subst Formed n.gives (left_formed b j) in
         let ne : c ≡ d → ⊥ = λ z. false≢true (sym r ∙ ap (λ (l : List ℕ). same_bytes l d) z ∙ same_bytes_refl d) in
-        rw (some_left a e x y k, some_left b f z u l) (sym (here ∙ names_order c d (left a e) (left b f) g.0 h.0 ne))
+        rw (some_left a e x k, some_left b f y l) (sym (here ∙ names_order c d (left a e) (left b f) g.0 h.0 ne))
 
     pub cmp_on : same_bytes c d ≡ true → (u : Bool) × (path_order a b ≡ byte_order (join u (left a e)) (join u (left b f)))
     cmp_on r =

@@ -1,15 +1,16 @@
 -- Laws of the parent and of the walk up through the ancestors.
-use Rattle.std.specs.Prelude.{None, Some}
+use Rattle.std.specs.Prelude.{None, Option, Some}
+use Rattle.std.specs.Option.{unwrap_or}
 use Rattle.std.proofs.Common.{◌≡◌, ℕ, zero, suc, ◌-◌, ◌<◌, ◌≤◌, true, false, not, eqb, List, [], ◌∷◌, ◌++◌, length, get_or, take, drop, sym, refl, ap, ◌∙◌, subst, ⊎_elim, arith, length-take-le, take_all, eq-eqb, ne_eqb}
 use mathlib.Core.Bool.{false≢true}
 use Rattle.le.specs.Le.{laid}
 use Rattle.path.specs.Path.{components, same_path, init, is_root, has_parent, is_parent, join, normal, parent_of, parent_len, fronts, ancestors}
-use Rattle.path.specs.Walk.{Last, UpTo, parent_laid, up_from, Above}
+use Rattle.path.specs.Walk.{Last, UpTo, UpOf, parent_laid, up_from, Above}
 use Rattle.path.proofs.Parts.{AllNamed, Formed, formed, no_root}
 use Rattle.path.proofs.Theorems.{no_components}
 use Rattle.path.proofs.Ancestors.{fronts_nil, fronts_some}
 use Rattle.path.proofs.Walks.{root_at}
-use Rattle.path.proofs.Backs.{components_none, back_slash, last_none, last_some}
+use Rattle.path.proofs.Backs.{components_none, back_slash}
 
 -- ---- components with a last one
 
@@ -31,16 +32,16 @@ has_last (x ∷ y ∷ xs) c f = rw (last_free (y ∷ xs) c f.1)
 
 -- ---- the parent's front
 
-pub up_none : (s : List ℕ) (a e : ℕ) → Last s a e → a ≡ e → has_parent (components s) ≡ false
+pub up_none : (s : List ℕ) (r : Option ℕ) → components s ≡ [] → r ≡ None → UpOf s r
 unfolding has_parent
-up_none s a e n q = rw (last_none s a e n q)
+up_none s r n e = rw e (rw n)
 
-module _ (s : List ℕ) (a e : ℕ) (n : Last s a e) (q : a ≡ e → ⊥) where
+module _ (s : List ℕ) (a e : ℕ) (n : Last s a e) where
   has : has_parent (components s) ≡ not (eqb (get_or s a 0) 47)
   has =
-      let w = last_some s a e n q in
+      let w = n.gives in
       let c : List ℕ = take (e - a) (drop a s) in
-      let r : is_root c ≡ eqb (get_or s a 0) 47 = root_at s a e (omega (arith, n.ordered)) (omega (arith, n.ordered, n.inside)) in
+      let r : is_root c ≡ eqb (get_or s a 0) 47 = root_at s a e n.some (omega (arith, n.some, n.inside)) in
       ap has_parent w ∙ has_last (components (take a s)) c (subst Formed w (formed s)) ∙ ap not r
 
   pub up_root : get_or s a 0 ≡ 47 → has_parent (components s) ≡ false
@@ -48,8 +49,8 @@ module _ (s : List ℕ) (a e : ℕ) (n : Last s a e) (q : a ≡ e → ⊥) where
 
   pub up_start : (get_or s a 0 ≡ 47 → ⊥) → UpTo s a
   up_start h = record {
-    inside = omega (arith, n.ordered, n.inside);
-    names = sym (ap init (last_some s a e n q) ∙ init_last (components (take a s)) (take (e - a) (drop a s)));
+    inside = omega (arith, n.some, n.inside);
+    names = sym (ap init n.gives ∙ init_last (components (take a s)) (take (e - a) (drop a s)));
     has = has ∙ rw (ne_eqb (get_or s a 0) 47 h);
   }
 
@@ -70,9 +71,9 @@ pub parent_some : (d f : List ℕ) (e : ℕ) → UpTo f e → same_path d (take 
 unfolding is_parent same_path
 parent_some d f e u = rw (u.has, u.names)
 
-pub parent_kept : (s d : List ℕ) → has_parent (components s) ≡ false → (None ≡ parent_len s) × (d ≡ parent_laid d s)
+pub parent_kept : (s d : List ℕ) (r : Option ℕ) → has_parent (components s) ≡ false → r ≡ None → (r ≡ parent_len s) × (d ≡ parent_laid d s)
 unfolding parent_len parent_laid
-parent_kept s d h = (rw h, rw h)
+parent_kept s d r h e = (e ∙ rw h, rw h)
 
 up_normal : (s : List ℕ) (e : ℕ) → UpTo s e → normal (take e s) ≡ parent_of s
 unfolding normal parent_of
@@ -103,7 +104,7 @@ unfolding has_parent
 init_shorter [] h e = absurd (false≢true h)
 init_shorter (c ∷ cs) h e = omega (arith, length_init c cs, ap length e)
 
-pub above_none : (s : List ℕ) → has_parent (components s) ≡ false → Above s 0
+above_none : (s : List ℕ) → has_parent (components s) ≡ false → Above s 0
 unfolding ancestors up_from
 above_none s h = record { inside = omega arith; falls = λ z. z; gives = rw (fronts_none (components s) h) }
 
@@ -124,7 +125,7 @@ module _ (s : List ℕ) (e : ℕ) (u : UpTo s e) where
   whole : length s ≤ e → components s ≡ init (components s)
   whole q = ap components (sym (take_all e s q)) ∙ u.names
 
-  pub above_some : Above s e
+  above_some : Above s e
   above_some =
       record {
         inside = u.inside;
@@ -135,3 +136,7 @@ module _ (s : List ℕ) (e : ℕ) (u : UpTo s e) where
       zero_or : (n : ℕ) (P : Type 0) → (n ≡ 0 → P) → ((n ≡ 0 → ⊥) → P) → P
       zero_or zero P f g = f refl
       zero_or (suc n) P f g = g (λ x. omega arith)
+
+pub above_of : (s : List ℕ) (r : Option ℕ) → UpOf s r → Above s (unwrap_or r 0)
+above_of s None h = above_none s h
+above_of s (Some e) u = above_some s e u

@@ -1,7 +1,9 @@
 -- Laws of the walk from the front.
-use Rattle.std.proofs.Common.{◌≡◌, ℕ, zero, suc, ◌+◌, ◌-◌, ◌<◌, ◌≤◌, Bool, true, false, cond, eqb, List, [], ◌∷◌, length, get_or, take, drop, sym, refl, ap, ◌∙◌, add-one, arith, length-drop, drop_of_length-le, length-take-le, drop-cons, drop-drop, le-ltb, lt-ltb, eq-eqb, ne_eqb, take_all}
+use Rattle.std.specs.Prelude.{None, Option, Some}
+use Rattle.std.proofs.Common.{◌≡◌, ℕ, zero, suc, ◌+◌, ◌-◌, ◌<◌, ◌≤◌, Bool, true, false, cond, eqb, List, [], ◌∷◌, length, get_or, take, drop, sym, refl, ap, ◌∙◌, add-one, arith, length-drop, drop_of_length-le, length-take-le, drop-cons, drop-drop, eq-eqb, ne_eqb, take_all}
 use Rattle.path.specs.Path.{idle, names, split, components, is_root}
-use Rattle.path.specs.Walk.{run, rest, left, found, Next, NextName}
+use Rattle.path.specs.declared.Part.{Part}
+use Rattle.path.specs.Walk.{run, rest, left, Next, NextOf, NextName, NameOf}
 use Rattle.path.proofs.Parts.{rest_step, rest_slash, rest_nil, rest_named, components_step, formed, named_formed, Formed}
 
 -- ---- the run to the next slash
@@ -85,22 +87,12 @@ rest_dot l i e h q o d = step_at l i e true q (idle_dot l i e h o d)
 
 -- ---- the next component
 
-found_some : (s : List ℕ) (a e : ℕ) (ns : List (List ℕ)) → a < e → found s a e ns ≡ take (e - a) (drop a s) ∷ ns
-unfolding found
-found_some s a e ns h = rw (lt-ltb a e h)
-
-found_none : (s : List ℕ) (a e : ℕ) (ns : List (List ℕ)) → a ≡ e → found s a e ns ≡ []
-unfolding found
-found_none s a e ns h = rw (le-ltb a e (omega arith))
-
 pub name_some : (s : List ℕ) (i a e : ℕ) → i ≤ a → a < e → e ≤ length s → rest (drop i s) ≡ rest (drop a s)
     → e ≡ a + run (drop a s) → idle (take (e - a) (drop a s)) ≡ false → NextName s i a e
-name_some s i a e o h f p r n =
-    record { onward = o; ordered = omega arith; inside = f; gives = p ∙ step_at s a e false r n ∙ sym (found_some s a e (rest (drop e s)) h) }
+name_some s i a e o h f p r n = record { onward = o; some = h; inside = f; gives = p ∙ step_at s a e false r n }
 
-pub name_none : (s : List ℕ) (i a : ℕ) → i ≤ a → length s ≤ a → a ≤ length s → rest (drop i s) ≡ rest (drop a s) → NextName s i a a
-name_none s i a o h f p =
-    record { onward = o; ordered = omega arith; inside = f; gives = p ∙ rest_end s a h ∙ sym (found_none s a a (rest (drop a s)) refl) }
+pub name_none : (s : List ℕ) (i a : ℕ) → length s ≤ a → rest (drop i s) ≡ rest (drop a s) → rest (drop i s) ≡ []
+name_none s i a h p = p ∙ rest_end s a h
 
 pub left_front : (s : List ℕ) → left s 0 ≡ components s
 unfolding left
@@ -119,20 +111,21 @@ left_formed s i = go (eqb i 0)
     go true = formed s
     go false = named_formed (rest (drop i s)) (rest_named (drop i s))
 
-pub next_behind : (s : List ℕ) (i a e : ℕ) → 0 < i → NextName s i a e → Next s i a e
-next_behind s i a e h n =
-    record { onward = n.onward; ordered = n.ordered; inside = n.inside; gives = rw (left_behind s i h, left_behind s e (omega arith)) n.gives }
+pub next_behind : (s : List ℕ) (i : ℕ) (r : Option Part) → 0 < i → NameOf s i r → NextOf s i r
+next_behind s i None h n = left_behind s i h ∙ n
+next_behind s i (Some p) h n =
+    record { onward = n.onward; some = n.some; inside = n.inside; gives = rw (left_behind s i h, left_behind s p.stop (omega (arith, n.onward, n.some))) n.gives }
 
-pub next_empty : (s : List ℕ) → length s ≡ 0 → Next s 0 0 0
-unfolding left found components
-next_empty [] h = record { onward = omega arith; ordered = omega arith; inside = omega arith; gives = refl }
+pub next_empty : (s : List ℕ) → length s ≡ 0 → left s 0 ≡ []
+unfolding left components
+next_empty [] h = refl
 next_empty (b ∷ t) h = absurd (omega arith)
 
 pub next_root : (s : List ℕ) → 0 < length s → get_or s 0 0 ≡ 47 → Next s 0 0 1
-unfolding left found components rest
+unfolding left components rest
 next_root [] h e = absurd (omega arith)
 next_root (b ∷ t) h e =
-    record { onward = omega arith; ordered = omega arith; inside = omega arith; gives = rw (eq-eqb b 47 e) (ap (λ (x : ℕ). (x ∷ []) ∷ names (split t)) (sym e)) }
+    record { onward = omega arith; some = omega arith; inside = omega arith; gives = rw (eq-eqb b 47 e) (ap (λ (x : ℕ). (x ∷ []) ∷ names (split t)) (sym e)) }
 
 pub next_first : (s : List ℕ) (e : ℕ) → 0 < length s → (get_or s 0 0 ≡ 47 → ⊥) → e ≡ 0 + run (drop 0 s) → e ≤ length s → Next s 0 0 e
 next_first [] e h n q f = absurd (omega arith)
@@ -142,16 +135,10 @@ next_first (b ∷ t) e h n q f =
     let z : e - 0 ≡ e = omega arith in
     record {
       onward = omega arith;
-      ordered = omega arith;
+      some = p;
       inside = f;
-      gives = left_front (b ∷ t) ∙ rw (found_some (b ∷ t) 0 e (left (b ∷ t) e) p, left_behind (b ∷ t) e p, z, ← r) (components_step b t (ne_eqb b 47 n));
+      gives = left_front (b ∷ t) ∙ rw (left_behind (b ∷ t) e p, z, ← r) (components_step b t (ne_eqb b 47 n));
     }
-
-pub next_none : (s : List ℕ) (i a e : ℕ) → Next s i a e → a ≡ e → left s i ≡ []
-next_none s i a e n q = n.gives ∙ found_none s a e (left s e) q
-
-pub next_some : (s : List ℕ) (i a e : ℕ) → Next s i a e → (a ≡ e → ⊥) → left s i ≡ take (e - a) (drop a s) ∷ left s e
-next_some s i a e n q = n.gives ∙ found_some s a e (left s e) (omega arith)
 
 -- the component from a to e is the root just if it begins with a slash
 pub root_at : (s : List ℕ) (a e : ℕ) → a < e → a < length s → is_root (take (e - a) (drop a s)) ≡ eqb (get_or s a 0) 47

@@ -7,7 +7,7 @@ use Rattle.le.specs.Le.{laid}
 use Rattle.le.proofs.Parts.{mid_back, laid_nothing, length_laid, laid_laid}
 use Rattle.path.specs.Path.{slash, join, normal}
 use Rattle.path.specs.Walk.{left, Next}
-use Rattle.path.proofs.Walks.{next_none, next_some, root_at}
+use Rattle.path.proofs.Walks.{root_at}
 
 -- ---- a slash
 
@@ -69,26 +69,27 @@ pub normal_start : (s d : List ℕ) → Writing (normal s) d d 0 (join false (le
 unfolding normal left
 normal_start s d = record { done = []; whole = refl; long = refl; stands = sym (laid_nothing d 0) }
 
-module _ (s d₀ d : List ℕ) (out i a e : ℕ) (sep : Bool) (w : Writing (normal s) d₀ d out (join sep (left s i))) (n : Next s i a e) where
-  pub normal_done : a ≡ e → (d ≡ laid d₀ 0 (normal s)) × (out ≡ length (normal s))
+module _ (s d₀ d : List ℕ) (out i : ℕ) (sep : Bool) (w : Writing (normal s) d₀ d out (join sep (left s i))) where
+  pub normal_done : left s i ≡ [] → (d ≡ laid d₀ 0 (normal s)) × (out ≡ length (normal s))
   unfolding join
-  normal_done q = writing_all (normal s) d₀ d out (rw (next_none s i a e n q) at w)
+  normal_done n = writing_all (normal s) d₀ d out (rw n at w)
 
-  normal_turn : (a ≡ e → ⊥) → Writing (normal s) d₀ d out (slash sep ++ (take (e - a) (drop a s) ++ join (not (eqb (get_or s a 0) 47)) (left s e)))
+module _ (s d₀ d : List ℕ) (out i a e : ℕ) (sep : Bool) (w : Writing (normal s) d₀ d out (join sep (left s i))) (n : Next s i a e) where
+  normal_turn : Writing (normal s) d₀ d out (slash sep ++ (take (e - a) (drop a s) ++ join (not (eqb (get_or s a 0) 47)) (left s e)))
   unfolding join
-  normal_turn q = rw (← root_at s a e (omega arith) (omega arith)) (rw (next_some s i a e n q) at w)
+  normal_turn = rw (← root_at s a e n.some (omega (arith, n.some, n.inside))) (rw n.gives at w)
 
   -- there is room for the slash, and then for the component
-  module _ (q : a ≡ e → ⊥) (fits : length (normal s) ≤ length d₀) where
+  module _ (fits : length (normal s) ≤ length d₀) where
     pub slash_fits : out + length (slash sep) ≤ length d
-    slash_fits = writing_room (slash sep) _ (normal_turn q) fits
+    slash_fits = writing_room (slash sep) _ normal_turn fits
 
     module _ (d' : List ℕ) (out' : ℕ) (p : (d' ≡ laid d out (slash sep)) × (out' ≡ out + length (slash sep))) where
       abbrev part : List ℕ
       part = take (e - a) (drop a s)
 
       slashed : Writing (normal s) d₀ d' out' (part ++ join (not (eqb (get_or s a 0) 47)) (left s e))
-      slashed = writing_more (slash sep) _ (normal_turn q) fits d' out' p
+      slashed = writing_more (slash sep) _ normal_turn fits d' out' p
 
       pub part_fits : out' + (e - a) ≤ length d'
       part_fits = omega (arith, length_part s a e n.inside, writing_room part _ slashed fits)
@@ -105,19 +106,20 @@ pub len_start : (s : List ℕ) → length (normal s) ≡ 0 + length (join false 
 unfolding normal left
 len_start s = omega arith
 
-module _ (s : List ℕ) (out i a e : ℕ) (sep : Bool) (w : length (normal s) ≡ out + length (join sep (left s i))) (n : Next s i a e) where
-  pub len_done : a ≡ e → out ≡ length (normal s)
+module _ (s : List ℕ) (out i : ℕ) (sep : Bool) (w : length (normal s) ≡ out + length (join sep (left s i))) where
+  pub len_done : left s i ≡ [] → out ≡ length (normal s)
   unfolding join
-  len_done q = let z : length (join sep (left s i)) ≡ 0 = rw (next_none s i a e n q) in omega arith
+  len_done n = let z : length (join sep (left s i)) ≡ 0 = rw n in omega arith
 
-  len_step : (a ≡ e → ⊥) → length (join sep (left s i)) ≡ length (slash sep) + ((e - a) + length (join (not (eqb (get_or s a 0) 47)) (left s e)))
-  unfolding join
-  len_step q =
-      ap (λ (cs : List (List ℕ)). length (join sep cs)) (next_some s i a e n q)
-      ∙ rw (root_at s a e (omega arith) (omega arith)) (simp length-append (omega (arith, length_part s a e n.inside)))
+  module _ (a e : ℕ) (n : Next s i a e) where
+    len_step : length (join sep (left s i)) ≡ length (slash sep) + ((e - a) + length (join (not (eqb (get_or s a 0) 47)) (left s e)))
+    unfolding join
+    len_step =
+        ap (λ (cs : List (List ℕ)). length (join sep cs)) n.gives
+        ∙ rw (root_at s a e n.some (omega (arith, n.some, n.inside))) (simp length-append (omega (arith, length_part s a e n.inside)))
 
-  pub len_turn : (a ≡ e → ⊥) → (k : ℕ) → k ≡ length (slash sep) → length (normal s) ≡ out + k + (e - a) + length (join (not (eqb (get_or s a 0) 47)) (left s e))
-  len_turn q k z = omega (arith, len_step q)
+    pub len_turn : (k : ℕ) → k ≡ length (slash sep) → length (normal s) ≡ out + k + (e - a) + length (join (not (eqb (get_or s a 0) 47)) (left s e))
+    len_turn k z = omega (arith, len_step)
 
 pub slash_one : (sep : Bool) → from_bool sep ≡ length (slash sep)
 unfolding slash

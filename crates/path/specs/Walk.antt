@@ -5,6 +5,7 @@ use Rattle.std.specs.declared.cmp.Ordering.TheVariants.{Equal, Greater, Less}
 use Rattle.std.specs.Prelude.{◌≡◌, ℕ, suc, ◌-◌, ◌<◌, ◌≤◌, Bool, true, false, cond, ◌⊎◌, List, [], ◌∷◌, ◌++◌, length, take, drop, ◌==◌, nat_lt, slice_index, slice_range}
 use Rattle.le.specs.Le.{laid}
 use Rattle.lists.specs.Order.{and_then, cmp_nat}
+use Rattle.path.specs.declared.Part.{Part}
 use Rattle.path.specs.Path.{names, split, components, init, has_parent, normal, parent_of, ancestors}
 
 -- ---- from the front
@@ -22,23 +23,27 @@ rest t = names (split t)
 unfoldable pub left : List ℕ → ℕ → List (List ℕ)
 left s i = cond (i == 0) (components s) (rest (drop i s))
 
--- what the bytes from a to e stand for before the components ns: a component, or nothing at all if there are none
-unfoldable pub found : List ℕ → ℕ → ℕ → List (List ℕ) → List (List ℕ)
-found s a e ns = cond (nat_lt a e) (slice_range s a e ∷ ns) []
-
 -- the next component from place i on stands from a to e
 pub record Next (s : List ℕ) (i a e : ℕ) : Type 0 where
   pub onward : i ≤ a
-  pub ordered : a ≤ e
+  pub some : a < e
   pub inside : e ≤ length s
-  pub gives : left s i ≡ found s a e (left s e)
+  pub gives : left s i ≡ slice_range s a e ∷ left s e
+
+abbrev pub NextOf : List ℕ → ℕ → Option Part → Type 0
+NextOf s i None = left s i ≡ []
+NextOf s i (Some p) = Next s i p.start p.stop
 
 -- the same behind a path's first component
 pub record NextName (s : List ℕ) (i a e : ℕ) : Type 0 where
   pub onward : i ≤ a
-  pub ordered : a ≤ e
+  pub some : a < e
   pub inside : e ≤ length s
-  pub gives : rest (drop i s) ≡ found s a e (rest (drop e s))
+  pub gives : rest (drop i s) ≡ slice_range s a e ∷ rest (drop e s)
+
+abbrev pub NameOf : List ℕ → ℕ → Option Part → Type 0
+NameOf s i None = rest (drop i s) ≡ []
+NameOf s i (Some p) = NextName s i p.start p.stop
 
 -- ---- from the back
 
@@ -53,16 +58,16 @@ pub record Starts (s : List ℕ) (e a : ℕ) : Type 0 where
   pub free : Free (slice_range s a e)
   pub edge : (a ≡ 0) ⊎ (slice_index s (a - 1) ≡ 47)
 
--- the components of what stands before a, and that from a to e; none at all where the two are equal
-unfoldable pub ended : List ℕ → ℕ → ℕ → List (List ℕ)
-ended s a e = cond (nat_lt a e) (components (take a s) ++ slice_range s a e ∷ []) []
-
 -- the last component stands from a to e, behind a slash or at the front
 pub record Last (s : List ℕ) (a e : ℕ) : Type 0 where
-  pub ordered : a ≤ e
+  pub some : a < e
   pub inside : e ≤ length s
   pub edge : (a ≡ 0) ⊎ (slice_index s (a - 1) ≡ 47)
-  pub gives : components s ≡ ended s a e
+  pub gives : components s ≡ components (take a s) ++ slice_range s a e ∷ []
+
+abbrev pub LastOf : List ℕ → Option Part → Type 0
+LastOf s None = components s ≡ []
+LastOf s (Some p) = Last s p.start p.stop
 
 -- ---- the parent and the ancestors, as fronts of the spelling
 

@@ -6,13 +6,13 @@
 ghost use Rattle.std.specs.Prelude.{◌≡◌, ◌+◌, ◌≤◌, length, drop};
 ghost use Rattle.le.specs.Le.{laid};
 ghost use Rattle.lists.specs.Same.{same_bytes};
-ghost use Rattle.path.specs.Path.{same_path, is_parent, slash, normal, parent_of, parent_len, path_order, tail8, text_key, key_of};
+ghost use Rattle.path.specs.Path.{same_path, is_parent, slash, normal, parent_of, parent_len, path_order, text_key, key_of};
 ghost use Rattle.path.specs.Spelling.{idle_slash};
-ghost use Rattle.path.specs.Walk.{run, NextName, Next, Starts, Last, UpOf, Above, name_order, parent_laid};
+ghost use Rattle.path.specs.Walk.{run, NameOf, NextOf, Starts, LastOf, UpOf, Above, name_order, parent_laid};
 
 use std::cmp::Ordering;
 
-// A component of a path: its bytes stand from start to stop. Where the two are equal there is none.
+// A component of a path: its bytes stand from start to stop.
 #[derive(Clone, Copy)]
 struct Part {
     start: usize,
@@ -31,10 +31,10 @@ fn part_end(s: &[u8], i: usize) -> usize
     }
 }
 
-// The next component from i on, where i is behind the path's first.
-fn next_name(s: &[u8], i: usize) -> Part
+// The next component from i on, where i is behind the path's first. The walk goes by parts, so it counts by no fixed step.
+fn next_name(s: &[u8], i: usize) -> Option<Part>
     requires { i ≤ length s.now }
-    ensures { NextName s.now i result.start result.stop }
+    ensures { NameOf s.now i result }
 {
     let mut at = i;
     while at < s.len() {
@@ -43,36 +43,33 @@ fn next_name(s: &[u8], i: usize) -> Part
         } else {
             let e = part_end(s, at);
             if e != at + 1 {
-                return Part { start: at, stop: e };
+                return Some(Part { start: at, stop: e });
             }
             if s[at] != b'.' {
-                return Part { start: at, stop: e };
+                return Some(Part { start: at, stop: e });
             }
             at = e;
         }
     }
-    Part {
-        start: at,
-        stop: at,
-    }
+    None
 }
 
 // The next component from i on: 0 is before the first, and a component's stop is behind it.
-fn next(s: &[u8], i: usize) -> Part
+fn next(s: &[u8], i: usize) -> Option<Part>
     requires { i ≤ length s.now }
-    ensures { Next s.now i result.start result.stop }
+    ensures { NextOf s.now i result }
 {
     if i != 0 {
         return next_name(s, i);
     }
     if s.len() == 0 {
-        return Part { start: 0, stop: 0 };
+        return None;
     }
     if s[0] == b'/' {
-        return Part { start: 0, stop: 1 };
+        return Some(Part { start: 0, stop: 1 });
     }
     let e = part_end(s, 0);
-    Part { start: 0, stop: e }
+    Some(Part { start: 0, stop: e })
 }
 
 // The start of the part that ends at e: behind the last slash before e, or the front of the text.
@@ -86,32 +83,32 @@ fn part_start(s: &[u8], e: usize) -> usize
     }
 }
 
-// The last component, found from the back.
-fn last(s: &[u8]) -> Part
-    ensures { Last s.now result.start result.stop }
+// The last component, found from the back by parts.
+fn last(s: &[u8]) -> Option<Part>
+    ensures { LastOf s.now result }
 {
     let mut e = s.len();
     while 0 < e {
         if s[e - 1] == b'/' {
             if e == 1 {
-                return Part { start: 0, stop: 1 };
+                return Some(Part { start: 0, stop: 1 });
             }
             e -= 1;
         } else {
             let a = part_start(s, e);
             if a == 0 {
-                return Part { start: 0, stop: e };
+                return Some(Part { start: 0, stop: e });
             }
             if e != a + 1 {
-                return Part { start: a, stop: e };
+                return Some(Part { start: a, stop: e });
             }
             if s[a] != b'.' {
-                return Part { start: a, stop: e };
+                return Some(Part { start: a, stop: e });
             }
             e = a;
         }
     }
-    Part { start: 0, stop: 0 }
+    None
 }
 
 // Whether a and b hold the same bytes: eight at a time from the back, where paths of one folder differ, then the rest. `a == b` would look
@@ -139,28 +136,17 @@ fn same_walk(a: &[u8], b: &[u8]) -> bool
 {
     let mut i = a.len();
     let mut j = b.len();
-    loop {
-        let p = last(&a[..i]);
-        let q = last(&b[..j]);
-        let ps = p.start;
-        let pe = p.stop;
-        let qs = q.start;
-        let qe = q.stop;
-        if ps == pe {
-            if qs == qe {
-                return true;
-            }
+    while let Some(p) = last(&a[..i]) {
+        let Some(q) = last(&b[..j]) else {
+            return false;
+        };
+        if !same_bytes(&a[p.start..p.stop], &b[q.start..q.stop]) {
             return false;
         }
-        if qs == qe {
-            return false;
-        }
-        if !same_bytes(&a[ps..pe], &b[qs..qe]) {
-            return false;
-        }
-        i = ps;
-        j = qs;
+        i = p.start;
+        j = q.start;
     }
+    last(&b[..j]).is_none()
 }
 
 // Whether a and b spell the same path: `Path == Path`. Equal bytes need no walk.
@@ -193,17 +179,12 @@ pub fn normal_len(s: &[u8]) -> usize
     let mut at = 0;
     let mut out = 0;
     let mut sep = false;
-    loop {
-        let p = next(s, at);
-        let a = p.start;
-        let e = p.stop;
-        if a == e {
-            return out;
-        }
-        out += usize::from(sep) + (e - a);
-        sep = s[a] != b'/';
-        at = e;
+    while let Some(p) = next(s, at) {
+        out += usize::from(sep) + (p.stop - p.start);
+        sep = s[p.start] != b'/';
+        at = p.stop;
     }
+    out
 }
 
 // Writes the normal spelling of src to the front of dst, and returns its length.
@@ -215,32 +196,23 @@ pub fn normalize(src: &[u8], dst: &mut [u8]) -> usize
     let mut at = 0;
     let mut out = 0;
     let mut sep = false;
-    loop {
-        let p = next(src, at);
-        let s = p.start;
-        let e = p.stop;
-        if s == e {
-            return out;
-        }
+    while let Some(p) = next(src, at) {
         out = put_slash(dst, out, sep);
-        let n = e - s;
-        dst[out..out + n].copy_from_slice(&src[s..e]);
+        let n = p.stop - p.start;
+        dst[out..out + n].copy_from_slice(&src[p.start..p.stop]);
         out += n;
-        sep = src[s] != b'/';
-        at = e;
+        sep = src[p.start] != b'/';
+        at = p.stop;
     }
+    out
 }
 
 // Where a front of the path's spelling ends that spells its parent, `Path::parent`, or that it has none.
 pub fn parent_end(s: &[u8]) -> Option<usize>
     ensures { UpOf s.now result }
 {
-    let p = last(s);
+    let p = last(s)?;
     let a = p.start;
-    let e = p.stop;
-    if a == e {
-        return None;
-    }
     if s[a] == b'/' {
         return None;
     }
@@ -254,8 +226,7 @@ pub fn parent_end(s: &[u8]) -> Option<usize>
 pub fn is_parent(dir: &[u8], file: &[u8]) -> bool
     ensures { result ≡ is_parent dir.now file.now }
 {
-    let up = parent_end(file);
-    match up {
+    match parent_end(file) {
         None => false,
         Some(e) => same_path(dir, &file[..e]),
     }
@@ -267,25 +238,15 @@ pub fn parent(src: &[u8], dst: &mut [u8]) -> Option<usize>
     ensures long { result ≡ parent_len src.now }
     ensures laid { dst.new ≡ parent_laid dst.old src.now }
 {
-    let up = parent_end(src);
-    match up {
-        None => None,
-        Some(e) => {
-            let n = normalize(&src[..e], dst);
-            Some(n)
-        }
-    }
+    let e = parent_end(src)?;
+    Some(normalize(&src[..e], dst))
 }
 
 // Where the front of the spelling ends that spells the nearest ancestor but the empty path; 0 if there is none.
 pub fn above(s: &[u8]) -> usize
     ensures { Above s.now result }
 {
-    let up = parent_end(s);
-    match up {
-        None => 0,
-        Some(e) => e,
-    }
+    parent_end(s).unwrap_or(0)
 }
 
 // The order of two components that differ; more_a and more_b say whether a slash and more follow them in the normal spellings.
@@ -318,50 +279,29 @@ pub fn compare(a: &[u8], b: &[u8]) -> Ordering
 {
     let mut i = 0;
     let mut j = 0;
-    loop {
-        let p = next(a, i);
-        let q = next(b, j);
-        let ps = p.start;
-        let pe = p.stop;
-        let qs = q.start;
-        let qe = q.stop;
-        if ps == pe {
-            if qs == qe {
-                return Ordering::Equal;
-            }
-            return Ordering::Less;
-        }
-        if qs == qe {
+    while let Some(p) = next(a, i) {
+        let Some(q) = next(b, j) else {
             return Ordering::Greater;
+        };
+        if !same_bytes(&a[p.start..p.stop], &b[q.start..q.stop]) {
+            let more_a = next(a, p.stop).is_some();
+            let more_b = next(b, q.stop).is_some();
+            return compare_names(&a[p.start..p.stop], more_a, &b[q.start..q.stop], more_b);
         }
-        if !same_bytes(&a[ps..pe], &b[qs..qe]) {
-            let x = next(a, pe);
-            let y = next(b, qe);
-            let more_a = x.start != x.stop;
-            let more_b = y.start != y.stop;
-            return compare_names(&a[ps..pe], more_a, &b[qs..qe], more_b);
-        }
-        i = pe;
-        j = qe;
+        i = p.stop;
+        j = q.stop;
     }
+    if next(b, j).is_some() {
+        return Ordering::Less;
+    }
+    Ordering::Equal
 }
 
-// The last eight bytes of a text as a number, or as many as it has.
-fn tail_number(c: &[u8]) -> u64
-    ensures { result ≡ tail8 c.now }
-{
-    let n = c.len();
-    if n < 8 {
-        return le::get_at(c, 0, n);
-    }
-    le::get_at(c, n - 8, 8)
-}
-
-// A key of a text, whatever it spells, from its last eight bytes and its length.
+// A key of a text, whatever it spells, from its last eight bytes, or as many as it has, and its length.
 pub fn text_key(c: &[u8]) -> u32
     ensures { result ≡ text_key c.now }
 {
-    let x = tail_number(c);
+    let x = le::get_le(&c[c.len().saturating_sub(8)..]);
     let n = (c.len() % 65536) as u64;
     ((x % 4294967296 + x / 4294967296 * 31 + n) % 4294967296) as u32
 }
@@ -370,10 +310,10 @@ pub fn text_key(c: &[u8]) -> u32
 pub fn key(s: &[u8]) -> u32
     ensures { result ≡ key_of s.now }
 {
-    let p = last(s);
-    let a = p.start;
-    let e = p.stop;
-    text_key(&s[a..e])
+    match last(s) {
+        None => text_key(&[]),
+        Some(p) => text_key(&s[p.start..p.stop]),
+    }
 }
 
 // Whether a, of three bytes in a row, is a slash before a slash or before a part `.`.

@@ -5,7 +5,7 @@ use Rattle.path.proofs.next.Goals as goal
 
 pub returns-then-i-ne0 : goal.returns-then-i-ne0
 returns-then-i-ne0 c =
-    next_behind _ _ _ _ (omega arith) c.next_name.ensures
+    next_behind _ _ _ (omega arith) c.next_name.ensures
 
 pub returns-then-s-eq0 : goal.returns-then-s-eq0
 returns-then-s-eq0 c =

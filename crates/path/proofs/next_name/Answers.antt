@@ -34,4 +34,4 @@ loop-at-preserved c =
 
 pub returns : goal.returns
 returns c =
-    name_none c.args.s.now c.args.i c.loop-at.at (omega arith) (omega arith) (omega arith) c.loop-at.invariant.2
+    name_none c.args.s.now c.args.i c.loop-at.at (omega arith) c.loop-at.invariant.2

@@ -1,35 +1,34 @@
--- The invariant `Writing`: what is written and what is left to join are the whole. `writing_more` puts one piece.
+-- The invariant `Writing`: what is written and what is left to join are the whole. `part_put` puts one component.
 use Rattle.std.proofs.Common.{refl, arith}
 use Rattle.path.proofs.Writes.{writing_length, normal_start, normal_done, slash_fits, part_fits, part_put}
 use Rattle.path.proofs.normalize.Goals as goal
 
-pub loop-at-init : goal.loop-at-init
-loop-at-init c =
+pub loop-p-init : goal.loop-p-init
+loop-p-init c =
     (omega arith, refl, normal_start _ _)
-
-pub shape_of-dst-then-s-e : goal.shape_of-dst-then-s-e
-shape_of-dst-then-s-e c =
-    c.loop-at.invariant.1
-
-pub returns-then-s-e : goal.returns-then-s-e
-returns-then-s-e c =
-    let all = normal_done _ _ _ _ _ _ _ _ c.loop-at.invariant.2 c.next-p.ensures c.if-s-e.true in
-    record { laid = all.0; long = all.1 }
 
 pub put_slash-out-requires : goal.put_slash-out-requires
 put_slash-out-requires c =
-    slash_fits _ _ _ _ _ _ _ _ c.loop-at.invariant.2 c.next-p.ensures c.if-s-e.false c.requires
+    slash_fits _ _ _ _ _ _ _ _ c.loop-p.invariant.2 c.in-Some.ensures c.requires
 
 pub overflow_add-out : goal.overflow_add-out
 overflow_add-out c =
-    omega (arith, part_fits _ _ _ _ _ _ _ _ c.loop-at.invariant.2 c.next-p.ensures c.if-s-e.false c.requires _ _ (c.put_slash-out.ensures.laid, c.put_slash-out.ensures.behind))
+    let put = c.put_slash-out.ensures in
+    omega (arith, part_fits _ _ _ _ _ _ _ _ c.loop-p.invariant.2 c.in-Some.ensures c.requires _ _ (put.laid, put.behind))
 
 pub slice_bounds-copy_from_slice-end : goal.slice_bounds-copy_from_slice-end
 slice_bounds-copy_from_slice-end c =
-    part_fits _ _ _ _ _ _ _ _ c.loop-at.invariant.2 c.next-p.ensures c.if-s-e.false c.requires _ _ (c.put_slash-out.ensures.laid, c.put_slash-out.ensures.behind)
-
-pub loop-at-preserved : goal.loop-at-preserved
-loop-at-preserved c =
     let put = c.put_slash-out.ensures in
-    let v = part_put _ _ _ _ _ _ _ _ c.loop-at.invariant.2 c.next-p.ensures c.if-s-e.false c.requires _ _ (put.laid, put.behind) _ _ c.copy_from_slice.ensures.after refl in
-    (omega arith, writing_length v c.requires, v)
+    part_fits _ _ _ _ _ _ _ _ c.loop-p.invariant.2 c.in-Some.ensures c.requires _ _ (put.laid, put.behind)
+
+pub loop-p-preserved : goal.loop-p-preserved
+loop-p-preserved c =
+    let put = c.put_slash-out.ensures in
+    let n = c.in-Some.ensures in
+    let v = part_put _ _ _ _ _ _ _ _ c.loop-p.invariant.2 n c.requires _ _ (put.laid, put.behind) _ _ c.copy_from_slice.ensures.after refl in
+    (n.inside, writing_length v c.requires, v)
+
+pub returns : goal.returns
+returns c =
+    let all = normal_done _ _ _ _ _ _ c.loop-p.invariant.2 c.in_default.ensures in
+    record { laid = all.0; long = all.1 }

@@ -5,8 +5,8 @@ use Rattle.path.specs.Walk.{left}
 use Rattle.path.proofs.Writes.{Writing}
 use Rattle.path.proofs.normalize.Given as goal
 
-abbrev pub invariant-loop-at : goal.invariant-loop-at
-invariant-loop-at l = (l.at ≤ length l.src) × (length l.dst ≡ length l.initial.dst) × Writing (normal l.src) l.initial.dst l.dst l.out (join l.sep (left l.src l.at))
+abbrev pub invariant-loop-p : goal.invariant-loop-p
+invariant-loop-p l = (l.at ≤ length l.src) × (length l.dst ≡ length l.initial.dst) × Writing (normal l.src) l.initial.dst l.dst l.out (join l.sep (left l.src l.at))
 
-abbrev pub decreases-loop-at : goal.decreases-loop-at
-decreases-loop-at l = length l.src - l.at
+abbrev pub decreases-loop-p : goal.decreases-loop-p
+decreases-loop-p l = length l.src - l.at
