@@ -19,10 +19,7 @@ pub fn dir_len(dirs: &[u8], j: usize) -> usize
     ensures { result ≡ length (dir_at dirs.now j) }
 {
     let k = le::get_at(dirs, j * DIR_WIDTH, 2) as usize;
-    if MAX_PATH < k {
-        return MAX_PATH;
-    }
-    k
+    k.min(MAX_PATH)
 }
 
 // Whether p is the path of one of the first m rows.
