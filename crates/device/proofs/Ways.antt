@@ -2,11 +2,11 @@
 use mathlib.Core.Path.{◌≡◌, refl, sym, ap, ◌∙◌}
 use mathlib.Core.List.{List, [], ◌++◌}
 use mathlib.Core.Bool.{Bool, true, false, cond}
-use Prim.Native.Nat.{ℕ, ◌+◌, ◌-◌, ◌*◌, ◌/◌, ◌≤◌, ◌<◌, min, max}
+use Prim.Native.Nat.{ℕ, ◌+◌, ◌-◌, ◌*◌, ◌/◌, ◌≤◌, ◌<◌, min}
 use native.Mathlib.Nat.{mul-div_right}
 use native.Mathlib.Omega.{arith}
 use lib.ListN.{length, take, drop, get_or, set, replicate, length-replicate, length-take, length-drop}
-use lib.Seq.{set-get_or, drop-drop, length-take-le}
+use lib.Seq.{drop-drop, length-take-le}
 use lib.Dec.{eqb, ltb}
 use borrow.Author.Tests.{eq-eqb, ne_eqb, lt-ltb, le-ltb, ltb-true, ltb-false}
 use Rattle.le.specs.Le.{laid}
@@ -116,14 +116,6 @@ stores_fit byte pos size src {n} {m} l e f =
 pub stored_out : (b src : List ℕ) (base phys pos : ℕ) {b' b'' : List ℕ} → b' ≡ grown base phys pos b → b'' ≡ laid b' (base + pos) src → b'' ≡ stored_bytes base phys pos src b
 unfolding stored_bytes
 stored_out b src base phys pos e f = f ∙ ap (λ (x : List ℕ). laid x (base + pos) src) e
-
-pub reach_more : (h : List ℕ) (slot pos n : ℕ) → get_or h slot 0 < pos + n → set h slot (pos + n) ≡ stored_phys slot pos n h
-unfolding stored_phys
-reach_more h slot pos n l = let e : max (get_or h slot 0) (pos + n) ≡ pos + n = omega arith in rw e
-
-pub reach_same : (h : List ℕ) (slot pos n : ℕ) → pos + n ≤ get_or h slot 0 → h ≡ stored_phys slot pos n h
-unfolding stored_phys
-reach_same h slot pos n l = let e : max (get_or h slot 0) (pos + n) ≡ get_or h slot 0 = omega arith in rw e (sym (set-get_or h slot 0))
 
 -- ---- a truncate
 

@@ -198,12 +198,9 @@ fn next(plan: &[u8], place: Place, last: u8) -> Place
 {
     let at = place.at;
     if at < plan.len() {
-        return Place {
-            at: at + 1,
-            last: last,
-        };
+        return Place { at: at + 1, last };
     }
-    Place { at: at, last: last }
+    Place { at, last }
 }
 
 // The place in the slot of file offset `at`, or the first place beyond the slot where it lies further.
@@ -212,11 +209,7 @@ fn file_pos(geometry: Geometry, at: u64) -> usize
     ensures { result ≡ min (512 + at) (geometry.size + 1) }
 {
     let room = geometry.size - HEADER;
-    if at <= room as u64 {
-        HEADER + at as usize
-    } else {
-        geometry.size + 1
-    }
+    HEADER + at.min(room as u64 + 1) as usize
 }
 
 // How many bytes a read or a write moves, of n that it could, under this byte of the plan.
@@ -308,6 +301,7 @@ fn short_of(n: usize, asked: usize) -> u8
 }
 
 // Stores src at place `pos` of the slot: the gap from the physical length is zeroed, and the length reaches the end of what was stored.
+#[tactic(auto, using(crate::proofs::Ways::stored_out), unfolding(crate::specs::Device::stored_phys))]
 fn store(bytes: &mut [u8], phys: &mut [u64], size: usize, slot: usize, pos: usize, src: &[u8])
     requires slotted { Slotted size slot bytes.old phys.old }
     requires src_bound { pos + length src.now ≤ size }
@@ -320,9 +314,7 @@ fn store(bytes: &mut [u8], phys: &mut [u64], size: usize, slot: usize, pos: usiz
     grow(bytes, base, from, pos);
     lay(bytes, base + pos, src);
     let end = pos + src.len();
-    if from < end {
-        phys[slot] = end as u64;
-    }
+    phys[slot] = phys[slot].max(end as u64);
 }
 
 // Zeroes the places `from` up to `to` of the slot that starts at base; none where `to` comes first.

@@ -19,10 +19,7 @@ pub struct Chosen {
 pub fn choose(rows: usize, dir_rows: usize) -> Chosen
     ensures { result ≡ choosing rows dir_rows }
 {
-    Chosen {
-        rows: rows,
-        dir_rows: dir_rows,
-    }
+    Chosen { rows, dir_rows }
 }
 
 // What was chosen; the rows held, of slots and of directories; the next generation; the first `free` cells of `queue` are the free slots,
