@@ -230,7 +230,7 @@ fn cell_ok(nums: &[u64], names: &[u8], cap: usize, n: usize, q: [u8; 64], k: usi
     ensures { result ≡ cell_ok (rows_of nums.now names.now n) q k }
 {
     let x = q[k];
-    let i = x as usize;
+    let i = usize::from(x);
     if n <= i {
         return false;
     }
@@ -294,15 +294,11 @@ fn has_near(dirs: &[u8], keys: &[u32], m: usize, j: usize, p: &[u8]) -> bool
     ensures { result ≡ has_dir dirs.now m p.now }
 {
     let f = path::text_key(p);
-    if 0 < j {
-        if dir_is(dirs, keys, j - 1, f, p) {
-            return true;
-        }
+    if 0 < j && dir_is(dirs, keys, j - 1, f, p) {
+        return true;
     }
-    if j + 1 < m {
-        if dir_is(dirs, keys, j + 1, f, p) {
-            return true;
-        }
+    if j + 1 < m && dir_is(dirs, keys, j + 1, f, p) {
+        return true;
     }
     has_dir(dirs, keys, m, f, p)
 }
