@@ -94,34 +94,11 @@ fn run_all(
 
 // ---- the buffers
 
-fn no_bytes() -> [u8; 65536]
-    ensures { result ≡ replicate 65536 0 }
+// N times x.
+fn filled<T: Copy, const N: usize>(x: T) -> [T; N]
+    ensures { result ≡ replicate N x }
 {
-    [0u8; 65536]
-}
-
-fn no_lengths() -> [u64; 64]
-    ensures { result ≡ replicate 64 0 }
-{
-    [0u64; 64]
-}
-
-fn no_nums() -> [u64; 264]
-    ensures { result ≡ replicate 264 0 }
-{
-    [0u64; 264]
-}
-
-fn no_names() -> [u8; 31680]
-    ensures { result ≡ replicate 31680 0 }
-{
-    [0u8; 31680]
-}
-
-fn no_dirs() -> [u8; 124356]
-    ensures { result ≡ replicate 124356 0 }
-{
-    [0u8; 124356]
+    [x; N]
 }
 
 // ---- the script
@@ -149,9 +126,9 @@ fn on_rows(
     let plan = setup.plan;
     let a = plan.from;
     let e = plan.to;
-    let mut nums = no_nums();
-    let mut names = no_names();
-    let mut dirs = no_dirs();
+    let mut nums = filled::<u64, 264>(0);
+    let mut names = filled::<u8, 31680>(0);
+    let mut dirs = filled::<u8, 124356>(0);
     let ran = run_all(
         bytes,
         phys,
@@ -177,12 +154,12 @@ fn on_device(script: &[u8], setup: Setup, out: &mut [u8]) -> usize
 {
     let slots = setup.slots;
     let n = slots * setup.size;
-    let mut bytes = no_bytes();
+    let mut bytes = filled::<u8, 65536>(0);
     let Some(from) = script_format::patch(script, setup.patches, setup.count, &mut bytes[..n])
     else {
         return 0;
     };
-    let mut phys = no_lengths();
+    let mut phys = filled::<u64, 64>(0);
     script_format::lengths(script, setup.phys, &mut phys[..slots]);
     on_rows(
         &mut bytes[..n],

@@ -14,16 +14,16 @@ use Rattle.script.proofs.on_device.Goals as goal
 pub returns-in_default : goal.returns-in_default
 returns-in_default c =
     device_none c.args.script.now c.args.setup _ _ _ c.in_default.ensures
-    (fresh_front (c.args.setup.slots * c.args.setup.size) 65536 0 c.no_bytes-bytes.result
-    c.no_bytes-bytes.ensures c.requires.bytes) _ refl
+    (fresh_front (c.args.setup.slots * c.args.setup.size) 65536 0 c.filled-bytes.result
+    c.filled-bytes.ensures c.requires.bytes) _ refl
 
 pub on_rows-requires : goal.on_rows-requires
 on_rows-requires c = (
   c.requires,
   starts_inside c.args.script.now c.args.setup _ _ _
       c.in-Some.ensures
-      (fresh_front (c.args.setup.slots * c.args.setup.size) 65536 0 c.no_bytes-bytes.result
-      c.no_bytes-bytes.ensures c.requires.bytes) _ refl c.requires.patches,
+      (fresh_front (c.args.setup.slots * c.args.setup.size) 65536 0 c.filled-bytes.result
+      c.filled-bytes.ensures c.requires.bytes) _ refl c.requires.patches,
 )
 
 pub returns : goal.returns
@@ -34,20 +34,20 @@ returns c =
     let b : List ℕ = c.patch.new.bytes in
     let h : List ℕ = c.lengths.new.phys in
     let k : ℕ = u.slots * u.size in
-    let m : length (take u.slots c.no_lengths-phys.result) ≡ u.slots = length-take-le u.slots
-    c.no_lengths-phys.result
+    let m : length (take u.slots c.filled-phys.result) ≡ u.slots = length-take-le u.slots
+    c.filled-phys.result
     (omega (
       arith,
-      fresh_length 64 0 c.no_lengths-phys.result c.no_lengths-phys.ensures,
+      fresh_length 64 0 c.filled-phys.result c.filled-phys.ensures,
       c.requires.slots,
     )) in
-    let nb : length b ≡ k = c.patch.auto.bytes ∙ length-take-le k c.no_bytes-bytes.result
-    (omega (arith, fresh_length 65536 0 c.no_bytes-bytes.result c.no_bytes-bytes.ensures, c.requires.bytes)) in
+    let nb : length b ≡ k = c.patch.auto.bytes ∙ length-take-le k c.filled-bytes.result
+    (omega (arith, fresh_length 65536 0 c.filled-bytes.result c.filled-bytes.ensures, c.requires.bytes)) in
     let nh : length h ≡ u.slots = c.lengths.auto.phys ∙ m in
     c.on_rows.ensures.output
     ∙ ap₂ (λ (x y : List ℕ). pours (whole (ran_m s u x y c.in-Some.from)) o)
-    (front_back k b c.no_bytes-bytes.result nb) (front_back u.slots h c.no_lengths-phys.result nh)
+    (front_back k b c.filled-bytes.result nb) (front_back u.slots h c.filled-phys.result nh)
     ∙ ap (λ (x : List ℕ). pours x o)
     (device_run s u _ b _ c.in-Some.ensures
-    (fresh_front k 65536 0 c.no_bytes-bytes.result c.no_bytes-bytes.ensures c.requires.bytes) _ h _
+    (fresh_front k 65536 0 c.filled-bytes.result c.filled-bytes.ensures c.requires.bytes) _ h _
     c.lengths.ensures m refl)

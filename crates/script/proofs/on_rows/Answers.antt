@@ -13,18 +13,18 @@ use Rattle.script.proofs.on_rows.Goals as goal
 
 pub slice_bounds-run_all-end-2 : goal.slice_bounds-run_all-end-2
 slice_bounds-run_all-end-2 c =
-    sym (length-take-le (c.args.setup.rows * row_width) c.no_nums-nums.result
-    (omega (arith, fresh_length 264 0 c.no_nums-nums.result c.no_nums-nums.ensures, c.requires.0.rows)))
+    sym (length-take-le (c.args.setup.rows * row_width) c.filled-nums.result
+    (omega (arith, fresh_length 264 0 c.filled-nums.result c.filled-nums.ensures, c.requires.0.rows)))
 
 pub slice_bounds-run_all-end-3 : goal.slice_bounds-run_all-end-3
 slice_bounds-run_all-end-3 c =
-    sym (length-take-le (c.args.setup.rows * max_path) c.no_names-names.result
-    (omega (arith, fresh_length 31680 0 c.no_names-names.result c.no_names-names.ensures, c.requires.0.rows)))
+    sym (length-take-le (c.args.setup.rows * max_path) c.filled-names.result
+    (omega (arith, fresh_length 31680 0 c.filled-names.result c.filled-names.ensures, c.requires.0.rows)))
 
 pub slice_bounds-run_all-end-4 : goal.slice_bounds-run_all-end-4
 slice_bounds-run_all-end-4 c =
-    sym (length-take-le (c.args.setup.dir_rows * dir_width) c.no_dirs-dirs.result
-    (omega (arith, fresh_length 124356 0 c.no_dirs-dirs.result c.no_dirs-dirs.ensures, c.requires.0.dir_rows_lem)))
+    sym (length-take-le (c.args.setup.dir_rows * dir_width) c.filled-dirs.result
+    (omega (arith, fresh_length 124356 0 c.filled-dirs.result c.filled-dirs.ensures, c.requires.0.dir_rows_lem)))
 
 pub returns : goal.returns
 returns c =
@@ -33,9 +33,9 @@ returns c =
     (c.run_all-ran.ensures ∙ ap (λ (y : Said). closed y (shown c.args.out.now 0))
     (rows_are c.args.script.now u c.args.bytes.now c.args.phys.now
     c.args.from _ _ _ _ c.zero.ensures
-    (fresh_front (u.rows * row_width) 264 0 c.no_nums-nums.result c.no_nums-nums.ensures (omega (arith, c.requires.0.rows)))
-    (fresh_front (u.rows * max_path) 31680 0 c.no_names-names.result c.no_names-names.ensures
+    (fresh_front (u.rows * row_width) 264 0 c.filled-nums.result c.filled-nums.ensures (omega (arith, c.requires.0.rows)))
+    (fresh_front (u.rows * max_path) 31680 0 c.filled-names.result c.filled-names.ensures
     (omega (arith, c.requires.0.rows)))
-    (fresh_front (u.dir_rows * dir_width) 124356 0 c.no_dirs-dirs.result c.no_dirs-dirs.ensures
+    (fresh_front (u.dir_rows * dir_width) 124356 0 c.filled-dirs.result c.filled-dirs.ensures
     (omega (arith, c.requires.0.dir_rows_lem))))) in
     record { output = p.0; bytes = p.1; phys = p.2 }
