@@ -1,7 +1,7 @@
--- Of a block that claims: its path lies in it. And the ways out of `read`.
+-- Of a block that claims: its path lies in it.
 use Rattle.std.specs.Prelude.{None, Option, Some}
 use Prim.Native.Nat.{ℕ, ◌≤◌}
-use mathlib.Core.Path.{◌≡◌, refl, sym, ap, ◌∙◌}
+use mathlib.Core.Path.{◌≡◌, sym, ap, ◌∙◌}
 use mathlib.Core.Bool.{Bool, true, false, cond, not}
 use mathlib.Core.List.{List}
 use native.Mathlib.Omega.{arith}
@@ -35,24 +35,3 @@ claim_fits b h e f =
     let p = (found b block_len h).0 (claimed (decoded b block_len) h (sym e ∙ f)) in
     let q : h.path_len ≡ _ = ap (λ (k : Header). k.path_len) p.fields in
     omega (arith, p.path_fits, q)
-
--- ---- the ways out of `read`
-
-module _ (b : List ℕ) {d : Option Header} (e : d ≡ decoded b block_len) where
-  pub read_as_lem : read_as d ≡ says_of b
-  unfolding says_of
-  read_as_lem = ap read_as e
-
-  pub says_nothing : d ≡ None → Nothing ≡ says_of b
-  says_nothing f = sym (ap read_as f) ∙ read_as_lem
-
-  module _ (h : Header) (f : d ≡ Some h) where
-    pub says_unused : not h.in_use ≡ true → Free h.generation ≡ says_of b
-    says_unused t = let g : read_as (Some h) ≡ Free h.generation = rw t in sym (ap read_as f ∙ g) ∙ read_as_lem
-
-    module _ (t : not h.in_use ≡ false) where
-      pub says_nameless : eqb h.path_len 0 ≡ true → Free h.generation ≡ says_of b
-      says_nameless u = let g : read_as (Some h) ≡ Free h.generation = rw (t, u) in sym (ap read_as f ∙ g) ∙ read_as_lem
-
-      pub says_claim : eqb h.path_len 0 ≡ false → Claim h ≡ says_of b
-      says_claim u = let g : read_as (Some h) ≡ Claim h = rw (t, u) in sym (ap read_as f ∙ g) ∙ read_as_lem

@@ -1,6 +1,6 @@
 -- What the story is told by: what a slot's header block says.
 use Rattle.std.specs.Prelude.{None, Option, Some}
-use Rattle.std.specs.Prelude.{ℕ, Bool, cond, not, List, eqb}
+use Rattle.std.specs.Prelude.{ℕ, cond, not, List, eqb}
 use Rattle.header.specs.Block.{block_len, decoded}
 use Rattle.header.specs.declared.Header.{Header}
 use Rattle.demo.specs.declared.Says.{Says}

@@ -30,10 +30,9 @@ fn main() {
     let cut = torn(raw, cleaned);
     let unused = free(7);
     let mut bytes = [0u8; 4096];
-    lay(&mut bytes, 0, raw);
-    lay(&mut bytes, 1, cleaned);
-    lay(&mut bytes, 2, cut);
-    lay(&mut bytes, 3, unused);
+    for (i, block) in [raw, cleaned, cut, unused].iter().enumerate() {
+        lay(&mut bytes, i, *block);
+    }
     tell_all(&bytes);
     mount(&mut bytes);
     tell_all(&bytes);
@@ -153,21 +152,11 @@ fn tell_holder(
 // Prints the free queue of four slots, from its front.
 fn tell_queue(pool: Pool) {
     say(b"free slots:");
-    tell_cell(pool, 0);
-    tell_cell(pool, 1);
-    tell_cell(pool, 2);
-    tell_cell(pool, 3);
-    say(b"\n");
-}
-
-// Prints cell i of the queue, if there is one.
-fn tell_cell(pool: Pool, i: usize) {
-    let queue = pool.queue;
-    let free = pool.free;
-    if i < free && i < 64 {
+    for slot in pool.queue.iter().take(pool.free) {
         say(b" ");
-        number(queue[i] as u64);
+        number(u64::from(*slot));
     }
+    say(b"\n");
 }
 
 // The block of a slot that holds a file.
@@ -197,16 +186,14 @@ fn torn(old: [u8; 512], new: [u8; 512]) -> [u8; 512]
 }
 
 // What a block says: in use with a path that is not empty is a claim.
+#[tactic(auto, unfolding(crate::specs::Story::says_of))]
 fn read(block: [u8; 512]) -> Says
     ensures { result ≡ says_of block }
 {
     let Some(h) = Header::decode(block, Header::LEN) else {
         return Says::Nothing;
     };
-    if !h.in_use {
-        return Says::Free(h.generation);
-    }
-    if h.path_len == 0 {
+    if !h.in_use || h.path_len == 0 {
         return Says::Free(h.generation);
     }
     Says::Claim(h)
@@ -214,10 +201,9 @@ fn read(block: [u8; 512]) -> Says
 
 // Prints what each slot's block says.
 fn tell_all(bytes: &[u8]) {
-    tell(0, block(bytes, 0));
-    tell(1, block(bytes, 1));
-    tell(2, block(bytes, 2));
-    tell(3, block(bytes, 3));
+    for i in 0..4 {
+        tell(i, block(bytes, i));
+    }
 }
 
 // The header block of slot i.
@@ -234,11 +220,10 @@ fn block(bytes: &[u8], i: usize) -> [u8; 512] {
 }
 
 // Prints what the block of a slot says.
-fn tell(slot: u64, block: [u8; 512]) {
+fn tell(slot: usize, block: [u8; 512]) {
     say(b"slot ");
-    number(slot);
-    let s = read(block);
-    match s {
+    number(slot as u64);
+    match read(block) {
         Says::Nothing => say(b": absent\n"),
         Says::Free(g) => tell_free(g),
         Says::Claim(h) => tell_claim(block, h),

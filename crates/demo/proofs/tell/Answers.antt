@@ -4,4 +4,4 @@ use Rattle.demo.proofs.tell.Goals as goal
 
 pub tell_claim-requires : goal.tell_claim-requires
 tell_claim-requires c =
-    claim_fits c.args.block _ c.read-s.ensures c.in-Claim.is
+    claim_fits c.args.block _ c.read.ensures c.in-Claim.is
