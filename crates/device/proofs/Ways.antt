@@ -14,6 +14,7 @@ use Rattle.le.proofs.Parts.{mid_back, laid_nothing, laid_front}
 use Rattle.device.specs.declared.Place.{Place}
 use Rattle.device.specs.declared.Geometry.{Geometry}
 use Rattle.device.specs.Slots.{share_le}
+use Rattle.device.proofs.Shapes.{slotted}
 use Rattle.device.specs.Device.{dev, turn, onward, noted, share, stops, short, stores, given, read, read_m, grown, stored_bytes, stored_phys, write_m, cut, truncate_m, flushed, seen}
 
 -- a part that was lent to a copier of src as long as it, `&mut d[a..a + src.len()]`, is back
@@ -88,6 +89,9 @@ module _ (plan : List ℕ) (g : Geometry) (slot pos : ℕ) (dst b h : List ℕ) 
       let k : from + n - from ≡ n = omega arith in
       let w : length (take n (drop from b)) ≡ n = simp (length-take, length-drop) (omega arith) in
       out {ys = take n (drop from b)} false (rw (← t, ne_eqb byte 1 ne, ← e, ← f)) (d ∙ rw k (ap (λ (x : ℕ). take n (drop from b) ++ drop x dst) (sym w) ∙ sym (laid_front dst (take n (drop from b))))) (sym w) (ne_eqb byte 1 ne) s
+
+-- how long the parts are that are copied
+pub ruleset parts_read = (slotted, share_le, length-take, length-drop)
 
 -- ---- a write
 

@@ -221,6 +221,7 @@ fn share_of(byte: u8, n: usize) -> usize
 }
 
 // Reads into dst from place `pos` of the slot on.
+#[tactic(auto, using(crate::proofs::Ways::parts_read))]
 fn read_at(
     bytes: &[u8],
     phys: &[u64],

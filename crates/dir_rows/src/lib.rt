@@ -43,6 +43,7 @@ pub fn missing(dirs: &[u8], m: usize, p: &[u8]) -> usize
     ensures { result ≡ length (absent (dirs_of dirs.now m) (ancestors p.now)) }
 {
     let mut count = 0;
+    // Each turn goes on to the front of p that spells the next ancestor: not by one.
     let mut e = path::above(p);
     while e != 0 {
         let up = path::above(&p[..e]);
@@ -91,6 +92,7 @@ pub fn register_ancestors(dirs: &mut [u8], cap: usize, m: usize, p: &[u8]) -> us
     ensures flat { FlatDirs cap result dirs.new }
 {
     let mut n = m;
+    // As in `missing`, not by one.
     let mut end = path::above(p);
     while end != 0 {
         let up = path::above(&p[..end]);

@@ -1,6 +1,5 @@
 -- One law for each way out: `read_failed`, `read_past`, `read_done`.
 use native.Mathlib.Omega.{arith}
-use lib.ListN.{length-take, length-drop}
 use Rattle.device.proofs.Shapes.{slotted}
 use Rattle.device.specs.Slots.{share_le}
 use Rattle.device.proofs.Ways.{read_failed, read_past, read_done}
@@ -15,36 +14,6 @@ pub returns-then-end-pos : goal.returns-then-end-pos
 returns-then-end-pos c =
     let a = c.args in
     read_past a.plan.now a.geometry a.slot a.pos a.dst.now a.bytes.now a.phys.now a.place c.turn_of-byte.ensures c.if-byte-eq1.false c.if-end-pos.true c.next-then-end-pos.ensures
-
-pub overflow_add-upto : goal.overflow_add-upto
-overflow_add-upto c =
-    let s = slotted c.requires.shape c.requires.slot_in_bounds in
-    let k = share_le c.turn_of-byte.result c.min.result in
-    omega arith
-
-pub slice_bounds-copy_from_slice-end : goal.slice_bounds-copy_from_slice-end
-slice_bounds-copy_from_slice-end c =
-    let s = slotted c.requires.shape c.requires.slot_in_bounds in
-    let k = share_le c.turn_of-byte.result c.min.result in
-    omega arith
-
-pub slice_bounds-copy_from_slice-length : goal.slice_bounds-copy_from_slice-length
-slice_bounds-copy_from_slice-length c =
-    let s = slotted c.requires.shape c.requires.slot_in_bounds in
-    let k = share_le c.turn_of-byte.result c.min.result in
-    simp length-take (omega arith)
-
-pub slice_bounds-copy_from_slice-end-2 : goal.slice_bounds-copy_from_slice-end-2
-slice_bounds-copy_from_slice-end-2 c =
-    let s = slotted c.requires.shape c.requires.slot_in_bounds in
-    let k = share_le c.turn_of-byte.result c.min.result in
-    omega arith
-
-pub copy_from_slice-requires : goal.copy_from_slice-requires
-copy_from_slice-requires c =
-    let s = slotted c.requires.shape c.requires.slot_in_bounds in
-    let k = share_le c.turn_of-byte.result c.min.result in
-    simp (length-take, length-drop) (omega arith)
 
 pub returns : goal.returns
 returns c =
