@@ -1,4 +1,4 @@
--- What the library's `contains`, `==`, `all` and `any` answer, in the words of the contracts; and `&&` chains that end at a test.
+-- What the library's `contains`, `==`, `all` and `any` answer, in the words of the contracts.
 use Prim.Native.Nat.{ℕ, zero, suc, ◌+◌, ◌≤◌, ◌<◌}
 use mathlib.Core.Path.{◌≡◌, refl, sym, ◌∙◌}
 use mathlib.Core.List.{List, [], ◌∷◌}
@@ -7,7 +7,7 @@ use native.Mathlib.Omega.{arith}
 use lib.Dec.{eqb}
 use lib.ListN.{length, get_or, take, drop}
 use lib.Seq.{drop-cons}
-use Rattle.lists.specs.Runs.{all_of, any_of, any_not}
+use Rattle.lists.specs.Runs.{all_of, any_of}
 use native.Mathlib.Numerals.{add-one}
 use denote.Param.Members.{Mut}
 use Rattle.std.specs.Fn.{Called}
@@ -20,14 +20,6 @@ use Rattle.lists.specs.Same.{same, same_bytes}
 use Rattle.pool_test.specs.Test.{is_at, has_num}
 use Rattle.std.specs.Str.{bytes_eq}
 
--- ---- chains of tests
-
-pub and_no : (a b : Bool) → a ≡ false → false ≡ (a && b)
-and_no a b e = rw e
-
-pub and_on : (a b r : Bool) → a ≡ true → r ≡ b → r ≡ (a && b)
-and_on a b r e f = rw e f
-
 -- ---- `contains` over the first of a list
 
 listed : (t : ℕ → Bool) (l : List ℕ) (i k : ℕ) → i + k ≤ length l → list_any t (take k (drop i l)) ≡ any_of (λ j. t (get_or l j 0)) i k
@@ -39,21 +31,13 @@ listed t l i (suc k) h = rw (drop-cons l i 0 (omega arith), listed t l (suc i) k
     go true = refl
     go false = refl
 
-pub num_told : (l : List ℕ) (k x : ℕ) → k ≤ length l → list_any (λ y. eqb y x) (take k l) ≡ has_num l k x
+pub num_told : (l : List ℕ) (k x : ℕ) → k ≤ length l → has_num l k x ≡ list_any (λ y. eqb y x) (take k l)
 unfolding is_at
-num_told l k x h = listed (λ y. eqb y x) l 0 k (omega arith)
+num_told l k x h = sym (listed (λ y. eqb y x) l 0 k (omega arith))
 
 -- ---- one of a run
 
--- where one is hit, the run is
-pub any_at : (f : ℕ → Bool) (n j : ℕ) → j < n → f j ≡ true → any_of f 0 n ≡ true
-any_at f n j h e = go (any_of f 0 n) refl
-  where
-    go : (t : Bool) → any_of f 0 n ≡ t → t ≡ true
-    go true u = refl
-    go false u = absurd (false≢true (sym (any_not f 0 n j u (omega arith) (omega arith)) ∙ e))
-
--- and the other way round
+-- where the run is hit, one is
 pub any_one : (f : ℕ → Bool) (i k : ℕ) → any_of f i k ≡ true → (j : ℕ) × (i ≤ j) × (j < i + k) × (f j ≡ true)
 unfolding any_of
 any_one f i zero e = absurd (false≢true e)
