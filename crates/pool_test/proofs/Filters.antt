@@ -9,7 +9,7 @@ use lib.Dec.{eqb, leb}
 use lib.ListN.{length, get_or, take, drop}
 use borrow.Author.Tests.{eq-eqb}
 use Rattle.limits.specs.Limits.{max_path, dir_width}
-use Rattle.le.specs.Le.{field, Bytes}
+use Rattle.le.specs.Le.{field}
 use Rattle.le.proofs.Fields.{field_back}
 use Rattle.lists.specs.Same.{same_bytes, same_bytes_refl, same_bytes_other}
 use Rattle.lists.specs.Runs.{any_not, any_none}
@@ -22,6 +22,7 @@ use Rattle.pool_test.specs.Test.{is_zero, cut_out, dir_fits, is_at, first_ok}
 use Rattle.pool_test.specs.Keys.{Keys, is_dir, has_dir}
 use Rattle.std.specs.Prelude.{◌≢◌}
 use Rattle.std.specs.List.{list_any}
+use Rattle.std.proofs.Common.{Fits, w8}
 use Rattle.pool_test.proofs.Turns.{num_told}
 
 -- where no key before i is key i, none before it has the key of what stands at i
@@ -72,7 +73,7 @@ dir_hit b p m j e h = go (has_dir b m p) refl
 -- ---- a directory row's form
 
 -- any two bytes are a length
-pub dir_told : (b : List ℕ) (j : ℕ) → Bytes b → j * dir_width + dir_width ≤ length b
+pub dir_told : (b : List ℕ) (j : ℕ) → ((i : ℕ) → Fits w8 (get_or b i 0)) → j * dir_width + dir_width ≤ length b
     → dir_fits b j ≡ (leb (field b (j * dir_width) 2) max_path && is_zero (cut_out b (j * dir_width + 2 + field b (j * dir_width) 2) (j * dir_width + dir_width)))
 unfolding dir_fits
-dir_told b j bytes room = rw (field_back b (j * dir_width) 2 bytes (omega arith), same_bytes_refl (take 2 (drop (j * dir_width) b)))
+dir_told b j bytes room = rw (field_back b (j * dir_width) 2 (λ i. omega (arith, bytes i)) (omega arith), same_bytes_refl (take 2 (drop (j * dir_width) b)))

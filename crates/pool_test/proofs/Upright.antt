@@ -76,13 +76,6 @@ normal_cut x e h k s =
 
 -- ---- one directory that fails
 
-fails : (f : ℕ → Bool) (m j : ℕ) → j < m → f j ≡ false → all_of f 0 m ≡ false
-fails f m j h e = go (all_of f 0 m) refl
-  where
-    go : (t : Bool) → all_of f 0 m ≡ t → t ≡ false
-    go true u = absurd (false≢true (sym e ∙ all_at f 0 m j u (omega arith) (omega arith)))
-    go false u = refl
-
 -- a row that is p is found among the paths
 found : (b : List ℕ) (n : ℕ) (p : List ℕ) → has_dir b n p ≡ true → (i : ℕ) × (i < n) × (dir_at b i ≡ p)
 unfolding is_dir

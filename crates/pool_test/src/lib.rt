@@ -60,14 +60,10 @@ fn rest_ok(nums: &[u64], names: &[u8], dirs: &[u8], pool: Pool) -> bool
     requires { Sized pool (length nums.now) (length names.now) (length dirs.now) }
     ensures { result ≡ rest_ok (bufs pool nums.now names.now dirs.now) }
 {
-    let n = pool.held;
-    let m = pool.dirs;
-    let free = pool.free;
-    let q = pool.queue;
-    top(&nums[n * ROW_WIDTH..nums.len()]) == 0
-        && text::greatest(&names[n * MAX_PATH..names.len()]) == 0
-        && text::greatest(&dirs[m * DIR_WIDTH..dirs.len()]) == 0
-        && text::greatest(&q[free..64]) == 0
+    top(&nums[pool.held * ROW_WIDTH..]) == 0
+        && text::greatest(&names[pool.held * MAX_PATH..]) == 0
+        && text::greatest(&dirs[pool.dirs * DIR_WIDTH..]) == 0
+        && text::greatest(&pool.queue[pool.free..]) == 0
 }
 
 // ---- rows that are the form of something
@@ -97,6 +93,7 @@ fn bare_ok(m: u64, k: u64, n: u64) -> bool
 }
 
 // Whether directory row j is the form of a directory.
+#[tactic(auto, using(crate::proofs::Filters::dir_told), unfolding(crate::specs::Test::is_zero))]
 fn dir_fits(dirs: &[u8], j: usize) -> bool
     requires { j * dir_width + dir_width ≤ length dirs.now }
     ensures { result ≡ dir_fits dirs.now j }
@@ -179,18 +176,18 @@ fn slots_ok(rows: &Rows, c: u64) -> bool
 
 // Whether cell k is an unbound slot that no cell before it is.
 #[tactic(auto, using(slot_rows::proofs::InBuffers::length_rows, crate::proofs::Turns::num_told), unfolding(crate::specs::Test::cell_ok))]
-fn cell_ok(rows: &Rows, q: [u8; 64], k: usize) -> bool
-    requires { Lie rows.now × (k < 64) }
-    ensures { result ≡ cell_ok (held rows.now) q k }
+fn cell_ok(rows: &Rows, q: &[u8], k: usize) -> bool
+    requires { Lie rows.now × (k < length q.now) }
+    ensures { result ≡ cell_ok (held rows.now) q.now k }
 {
     let i = usize::from(q[k]);
     i < rows.n && !rows.is_bound(i) && !q[..k].contains(&q[k])
 }
 
 // Whether each of the first m cells is.
-fn queue_ok(rows: &Rows, q: [u8; 64], m: usize) -> bool
-    requires { Lie rows.now × (m ≤ 64) }
-    ensures { result ≡ all_of (cell_ok (held rows.now) q) 0 m }
+fn queue_ok(rows: &Rows, q: &[u8], m: usize) -> bool
+    requires { Lie rows.now × (m ≤ length q.now) }
+    ensures { result ≡ all_of (cell_ok (held rows.now) q.now) 0 m }
 {
     (0..m).all(|k| cell_ok(rows, q, k))
 }
@@ -266,6 +263,7 @@ fn tail_at(x: &[u8], e: usize) -> usize
 }
 
 // Whether x, which is directory j, is normal if the directories are, and its nearest ancestor, if it has one, is a directory.
+#[tactic(auto, using(crate::proofs::Upright::up_cut, crate::proofs::Upright::up_one))]
 fn up_held(dirs: &[u8], keys: &[u32], m: usize, j: usize, x: &[u8]) -> bool
     requires { (m * dir_width ≤ length dirs.now)
         × Keys text_key (dir_at dirs.now) m keys.now
@@ -288,6 +286,7 @@ fn up_held(dirs: &[u8], keys: &[u32], m: usize, j: usize, x: &[u8]) -> bool
 }
 
 // Whether directory j is the first of its bytes, and as `up_held` says.
+#[tactic(auto, using(crate::proofs::Upright::seen_no, crate::proofs::Upright::seen_none))]
 fn dir_ok(dirs: &[u8], keys: &[u32], m: usize, j: usize) -> bool
     requires { (m * dir_width ≤ length dirs.now) × Keys text_key (dir_at dirs.now) m keys.now × (j < m) }
     ensures { Judged (Fine dirs.now m j) dirs.now m result }
@@ -322,7 +321,7 @@ fn view_ok(nums: &[u64], names: &[u8], dirs: &[u8], pool: Pool) -> bool
         n: pool.held,
     };
     slots_ok(&rows, pool.counter)
-        && queue_ok(&rows, pool.queue, pool.free)
+        && queue_ok(&rows, &pool.queue, pool.free)
         && directories_ok(dirs, pool.dirs)
 }
 
