@@ -23,7 +23,7 @@ use Rattle.slot_rows.proofs.InBuffers.{nums_wide, name_wide, length_rows}
 use Rattle.dir_rows.specs.Rows.{dir_row, dir_at, dirs_of, flat_dirs, FlatDirs}
 use Rattle.dir_rows.proofs.InBuffer.{row_wide, length_dirs, dir_short, dir_length, dir_part}
 use Rattle.pool_state.specs.declared.Pool.{Pool}
-use Rattle.pool_state.specs.State.{Bufs}
+use Rattle.pool_state.specs.State.{Bufs, bufs}
 use Rattle.pool_state.specs.Reads.{Reads}
 use Rattle.pool_test.specs.Test.{sizes_ok, is_zero, cut_out, rest_ok, bare_ok, row_fits, dir_fits, fits_ok}
 use Rattle.pool_test.specs.Keys.{Sized}
@@ -227,6 +227,10 @@ fit_rows b S r f =
     let r2 = both (is_zero (cut_out b.names (b.pool.held * max_path) (length b.names))) _ r1.1 in
     let f1 = both (all_of (row_fits b.nums b.names) 0 b.pool.held) _ f in
     rows_flat_of b.pool.chosen.rows b.pool.held b.nums b.names S.held S.nums_long S.names_long r1.0 r2.0 f1.0
+
+pub fit_flat : (q : Pool) (l s b : List ℕ) → sizes_ok q (length l) (length s) (length b) ≡ true → rest_ok (bufs q l s b) ≡ true → fits_ok (bufs q l s b) ≡ true
+    → Flat q.chosen.rows q.held l s
+fit_flat q l s b e r f = fit_rows (bufs q l s b) (sized q (length l) (length s) (length b) e) r f
 
 -- and the other way round
 pub row_tested : (b : Bufs) → Reads b → (i : ℕ) → i < b.pool.held → row_fits b.nums b.names i ≡ true

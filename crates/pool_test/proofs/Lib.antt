@@ -1,6 +1,6 @@
 -- Contents of proofs/, beside a folder for each function: what its proofs cite, and laws that crates above cite.
 
--- What the library's `contains`, `==`, `all` and `any` answer, in the words of the contracts; and `&&` chains that end at a test.
+-- What the library's `contains`, `==`, `all` and `any` answer, in the words of the contracts.
 pub mod Turns
 -- What the filters rest on: paths of different keys are different, so a row whose key none before it has is the first of its path.
 pub mod Filters

@@ -1,4 +1,4 @@
--- What the library's `contains`, `==`, `all` and `any` answer, in the words of the contracts; and `&&` chains that end at a test.
+-- What the library's `contains`, `==`, `all` and `any` answer, in the words of the contracts.
 use Prim.Native.Nat.{ℕ, zero, suc, ◌+◌, ◌≤◌, ◌<◌}
 use mathlib.Core.Path.{◌≡◌, refl, sym, ◌∙◌}
 use mathlib.Core.List.{List, [], ◌∷◌}
@@ -7,7 +7,7 @@ use native.Mathlib.Omega.{arith}
 use lib.Dec.{eqb}
 use lib.ListN.{length, get_or, take, drop}
 use lib.Seq.{drop-cons}
-use Rattle.lists.specs.Runs.{all_of, any_of, any_not}
+use Rattle.lists.specs.Runs.{all_of, any_of}
 use native.Mathlib.Numerals.{add-one}
 use denote.Param.Members.{Mut}
 use Rattle.std.specs.Fn.{Called}
@@ -20,45 +20,24 @@ use Rattle.lists.specs.Same.{same, same_bytes}
 use Rattle.pool_test.specs.Test.{is_at, has_num}
 use Rattle.std.specs.Str.{bytes_eq}
 
--- ---- chains of tests
-
-pub and_no : (a b : Bool) → a ≡ false → false ≡ (a && b)
-and_no a b e = rw e
-
-pub and_on : (a b r : Bool) → a ≡ true → r ≡ b → r ≡ (a && b)
-and_on a b r e f = rw e f
-
--- the library's words for a test and then another, in the words of `lists`
-and_is : (a b : Bool) → (a && b) ≡ cond a b false
-and_is true b = refl
-and_is false b = refl
-
-or_is : (a b : Bool) → (a || b) ≡ cond a true b
-or_is true b = refl
-or_is false b = refl
-
 -- ---- `contains` over the first of a list
 
 listed : (t : ℕ → Bool) (l : List ℕ) (i k : ℕ) → i + k ≤ length l → list_any t (take k (drop i l)) ≡ any_of (λ j. t (get_or l j 0)) i k
 unfolding any_of
 listed t l i zero h = refl
-listed t l i (suc k) h = rw (drop-cons l i 0 (omega arith), listed t l (suc i) k (omega arith)) (or_is (t (get_or l i 0)) (any_of (λ j. t (get_or l j 0)) (suc i) k))
+listed t l i (suc k) h = rw (drop-cons l i 0 (omega arith), listed t l (suc i) k (omega arith)) (go (t (get_or l i 0)))
+  where
+    go : (b : Bool) → (b || any_of (λ j. t (get_or l j 0)) (suc i) k) ≡ cond b true (any_of (λ j. t (get_or l j 0)) (suc i) k)
+    go true = refl
+    go false = refl
 
-pub num_told : (l : List ℕ) (k x : ℕ) → k ≤ length l → list_any (λ y. eqb y x) (take k l) ≡ has_num l k x
+pub num_told : (l : List ℕ) (k x : ℕ) → k ≤ length l → has_num l k x ≡ list_any (λ y. eqb y x) (take k l)
 unfolding is_at
-num_told l k x h = listed (λ y. eqb y x) l 0 k (omega arith)
+num_told l k x h = sym (listed (λ y. eqb y x) l 0 k (omega arith))
 
 -- ---- one of a run
 
--- where one is hit, the run is
-pub any_at : (f : ℕ → Bool) (n j : ℕ) → j < n → f j ≡ true → any_of f 0 n ≡ true
-any_at f n j h e = go (any_of f 0 n) refl
-  where
-    go : (t : Bool) → any_of f 0 n ≡ t → t ≡ true
-    go true u = refl
-    go false u = absurd (false≢true (sym (any_not f 0 n j u (omega arith) (omega arith)) ∙ e))
-
--- and the other way round
+-- where the run is hit, one is
 pub any_one : (f : ℕ → Bool) (i k : ℕ) → any_of f i k ≡ true → (j : ℕ) × (i ≤ j) × (j < i + k) × (f j ≡ true)
 unfolding any_of
 any_one f i zero e = absurd (false≢true e)
@@ -76,19 +55,31 @@ unfolding same
 same_told [] [] = refl
 same_told [] (y ∷ b) = refl
 same_told (x ∷ a) [] = refl
-same_told (x ∷ a) (y ∷ b) = rw (same_told a b) (and_is (eqb x y) (same_bytes a b))
+same_told (x ∷ a) (y ∷ b) = rw (same_told a b) (go (eqb x y))
+  where
+    go : (t : Bool) → (t && same_bytes a b) ≡ cond t (same_bytes a b) false
+    go true = refl
+    go false = refl
 
 -- ---- `all` and `any` over 0..n
 
 all_listed : (f : ℕ → Bool) (i k : ℕ) → list_all f (range_with_len i k) ≡ all_of f i k
 unfolding all_of
 all_listed f i zero = refl
-all_listed f i (suc k) = rw (all_listed f (i + 1) k, add-one) (and_is (f i) (all_of f (suc i) k))
+all_listed f i (suc k) = rw (all_listed f (i + 1) k, add-one) (go (f i))
+  where
+    go : (t : Bool) → (t && all_of f (suc i) k) ≡ cond t (all_of f (suc i) k) false
+    go true = refl
+    go false = refl
 
 any_listed : (f : ℕ → Bool) (i k : ℕ) → list_any f (range_with_len i k) ≡ any_of f i k
 unfolding any_of
 any_listed f i zero = refl
-any_listed f i (suc k) = rw (any_listed f (i + 1) k, add-one) (or_is (f i) (any_of f (suc i) k))
+any_listed f i (suc k) = rw (any_listed f (i + 1) k, add-one) (go (f i))
+  where
+    go : (t : Bool) → (t || any_of f (suc i) k) ≡ cond t true (any_of f (suc i) k)
+    go true = refl
+    go false = refl
 
 -- where the closure c answers f, they answer `all_of` and `any_of`
 module _ {F : Type 0} {g : Mut F (ℕ × Unit {0}) Bool} (f : ℕ → Bool) (n : ℕ) (u : _) (c : F) (r : Bool) where

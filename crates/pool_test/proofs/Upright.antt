@@ -74,18 +74,7 @@ normal_cut x e h k s =
     ∙ not_or (has_idle (take e x)) (has_idle (drop e x))
     ∙ sym (ap₂ (λ (t u : Bool). t && u) (told (take e x) (rw (length-take-le e x (omega arith)) h)) (told (drop e x) (rw (length-drop e x) (omega arith))))
 
--- the tail that is lent
-pub tail_told : (x : List ℕ) (k : ℕ) (r t : Bool) → r ≡ same_bytes (normal (cut_out x k (length x))) (cut_out x k (length x)) → r ≡ t → same_bytes (normal (drop k x)) (drop k x) ≡ t
-tail_told x k r t e h = ap (λ (p : List ℕ). same_bytes (normal p) p) (sym (part_rest x k)) ∙ sym e ∙ h
-
 -- ---- one directory that fails
-
-fails : (f : ℕ → Bool) (m j : ℕ) → j < m → f j ≡ false → all_of f 0 m ≡ false
-fails f m j h e = go (all_of f 0 m) refl
-  where
-    go : (t : Bool) → all_of f 0 m ≡ t → t ≡ false
-    go true u = absurd (false≢true (sym e ∙ all_at f 0 m j u (omega arith) (omega arith)))
-    go false u = refl
 
 -- a row that is p is found among the paths
 found : (b : List ℕ) (n : ℕ) (p : List ℕ) → has_dir b n p ≡ true → (i : ℕ) × (i < n) × (dir_at b i ≡ p)
@@ -135,10 +124,13 @@ module _ (b : List ℕ) (m j : ℕ) (inside : j < m) (x : List ℕ) (own : x ≡
   broken n = unless (λ u. false≢true (sym n ∙ own_told (says u).0))
 
   module _ (e k : ℕ) (T : Tail x e k) where
-    pub tail_no : same_bytes (normal (drop k x)) (drop k x) ≡ false → all_of (dir_ok b m) 0 m ≡ false
+    pub tail_no : same_bytes (normal (cut_out x k (length x))) (cut_out x k (length x)) ≡ false → all_of (dir_ok b m) 0 m ≡ false
     unfolding all
-    tail_no n = go T
+    tail_no h = go T
       where
+        n : same_bytes (normal (drop k x)) (drop k x) ≡ false
+        n = rw (part_rest x k) at h
+
         last_no : (p q : Bool) → q ≡ false → (p && q) ≡ false
         last_no true q h = h
         last_no false q h = refl
@@ -148,7 +140,10 @@ module _ (b : List ℕ) (m j : ℕ) (inside : j < m) (x : List ℕ) (own : x ≡
         go (inr t) =
             broken (normal_cut x e t.1 t.2 t.3 ∙ last_no (same_bytes (normal (take e x)) (take e x)) _ (subst (λ (i : ℕ). same_bytes (normal (drop i x)) (drop i x) ≡ false) t.0 n))
 
-    module _ (A : Above x e) (N : same_bytes (normal (drop k x)) (drop k x) ≡ true) where
+    module _ (A : Above x e) (lent : same_bytes (normal (cut_out x k (length x))) (cut_out x k (length x)) ≡ true) where
+      N : same_bytes (normal (drop k x)) (drop k x) ≡ true
+      N = rw (part_rest x k) at lent
+
       -- looked at as a whole
       whole : k ≡ 0 → normal (dir_at b j) ≡ dir_at b j
       whole z = told_own (subst (λ (i : ℕ). same_bytes (normal (drop i x)) (drop i x) ≡ true) z N)

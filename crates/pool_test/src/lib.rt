@@ -8,15 +8,18 @@ ghost use Rattle.limits.specs.Limits.{max_path, row_width, dir_width};
 ghost use Rattle.lists.specs.Runs.{all_of};
 ghost use Rattle.text.specs.Greatest.{greatest};
 ghost use Rattle.path.specs.Path.{text_key, key_of};
-ghost use Rattle.slot_rows.specs.Rows.{at, path_of, rows_of, Flat};
+ghost use Rattle.slot_rows.specs.Rows.{at, path_of, Flat};
+ghost use Rattle.slot_rows.specs.Held.{held, Lie};
 ghost use Rattle.dir_rows.specs.Rows.{dir_at};
 ghost use Rattle.pool_state.specs.State.{bufs};
 ghost use Rattle.pool_test.specs.Test.{sizes_ok, rest_ok, bare_ok, row_fits, dir_fits, first_ok, row_ok, cell_ok, dir_ok};
 ghost use Rattle.pool_test.specs.Test.{fits_ok, view_ok, is_pool};
 ghost use Rattle.pool_test.specs.Keys.{Sized, Keys, is_dir, has_dir, Tail, Upright, Fine, Judged};
 
+use dir_rows::dir_path;
 use limits::{DIR_WIDTH, LAST_COUNTER, MAX_PATH, ROW_WIDTH};
 use pool_state::Pool;
+use slot_rows::Rows;
 
 // ---- sizes and zeros
 
@@ -25,36 +28,18 @@ use pool_state::Pool;
 fn sizes_ok(pool: Pool, nums: usize, names: usize, dirs: usize) -> bool
     ensures { result ≡ sizes_ok pool nums names dirs }
 {
-    if 64 < pool.chosen.rows {
-        return false;
-    }
-    if 256 < pool.chosen.dir_rows {
-        return false;
-    }
-    if pool.chosen.rows < pool.held {
-        return false;
-    }
-    if pool.chosen.dir_rows < pool.dirs {
-        return false;
-    }
-    if 64 < pool.free {
-        return false;
-    }
-    if pool.counter < 1 {
-        return false;
-    }
-    if LAST_COUNTER < pool.counter {
-        return false;
-    }
     let rows = pool.chosen.rows;
-    if nums != rows * ROW_WIDTH {
-        return false;
-    }
-    if names != rows * MAX_PATH {
-        return false;
-    }
     let dir_rows = pool.chosen.dir_rows;
-    dirs == dir_rows * DIR_WIDTH
+    rows <= 64
+        && dir_rows <= 256
+        && pool.held <= rows
+        && pool.dirs <= dir_rows
+        && pool.free <= 64
+        && 1 <= pool.counter
+        && pool.counter <= LAST_COUNTER
+        && nums == rows * ROW_WIDTH
+        && names == rows * MAX_PATH
+        && dirs == dir_rows * DIR_WIDTH
 }
 
 // The greatest of some numbers, 0 where there is none.
@@ -75,20 +60,10 @@ fn rest_ok(nums: &[u64], names: &[u8], dirs: &[u8], pool: Pool) -> bool
     requires { Sized pool (length nums.now) (length names.now) (length dirs.now) }
     ensures { result ≡ rest_ok (bufs pool nums.now names.now dirs.now) }
 {
-    let n = pool.held;
-    let m = pool.dirs;
-    let free = pool.free;
-    let q = pool.queue;
-    if top(&nums[n * ROW_WIDTH..nums.len()]) != 0 {
-        return false;
-    }
-    if text::greatest(&names[n * MAX_PATH..names.len()]) != 0 {
-        return false;
-    }
-    if text::greatest(&dirs[m * DIR_WIDTH..dirs.len()]) != 0 {
-        return false;
-    }
-    text::greatest(&q[free..64]) == 0
+    top(&nums[pool.held * ROW_WIDTH..]) == 0
+        && text::greatest(&names[pool.held * MAX_PATH..]) == 0
+        && text::greatest(&dirs[pool.dirs * DIR_WIDTH..]) == 0
+        && text::greatest(&pool.queue[pool.free..]) == 0
 }
 
 // ---- rows that are the form of something
@@ -102,17 +77,11 @@ fn row_fits(nums: &[u64], names: &[u8], i: usize) -> bool
     let m = nums[i * ROW_WIDTH];
     let k = nums[i * ROW_WIDTH + 1];
     let n = nums[i * ROW_WIDTH + 2];
-    if 2 < m {
-        return false;
-    }
-    if (MAX_PATH as u64) < k {
-        return false;
-    }
-    if !bare_ok(m, k, n) {
-        return false;
-    }
     let from = i * MAX_PATH;
-    text::greatest(&names[from + k as usize..from + MAX_PATH]) == 0
+    m <= 2
+        && k <= MAX_PATH as u64
+        && bare_ok(m, k, n)
+        && text::greatest(&names[from + k as usize..from + MAX_PATH]) == 0
 }
 
 // Whether a row of mark m has a path and a length only if it is bound.
@@ -120,140 +89,113 @@ fn row_fits(nums: &[u64], names: &[u8], i: usize) -> bool
 fn bare_ok(m: u64, k: u64, n: u64) -> bool
     ensures { result ≡ bare_ok m k n }
 {
-    if m != 0 {
-        return true;
-    }
-    if k != 0 {
-        return false;
-    }
-    n == 0
+    m != 0 || (k == 0 && n == 0)
 }
 
 // Whether directory row j is the form of a directory.
+#[tactic(auto, using(crate::proofs::Filters::dir_told), unfolding(crate::specs::Test::is_zero))]
 fn dir_fits(dirs: &[u8], j: usize) -> bool
     requires { j * dir_width + dir_width ≤ length dirs.now }
     ensures { result ≡ dir_fits dirs.now j }
 {
     let at = j * DIR_WIDTH;
     let k = le::get_at(dirs, at, 2);
-    if (MAX_PATH as u64) < k {
-        return false;
-    }
-    text::greatest(&dirs[at + 2 + k as usize..at + DIR_WIDTH]) == 0
+    k <= MAX_PATH as u64 && text::greatest(&dirs[at + 2 + k as usize..at + DIR_WIDTH]) == 0
+}
+
+// Whether each of the first n slot rows is.
+fn slots_fit(nums: &[u64], names: &[u8], n: usize) -> bool
+    requires { (n * row_width ≤ length nums.now) × (n * max_path ≤ length names.now) }
+    ensures { result ≡ all_of (row_fits nums.now names.now) 0 n }
+{
+    (0..n).all(|i| row_fits(nums, names, i))
+}
+
+// Whether each of the first m directory rows is.
+fn dirs_fit(dirs: &[u8], m: usize) -> bool
+    requires { m * dir_width ≤ length dirs.now }
+    ensures { result ≡ all_of (dir_fits dirs.now) 0 m }
+{
+    (0..m).all(|j| dir_fits(dirs, j))
 }
 
 // Whether the rows held are the forms of slots and of directories.
+#[tactic(auto, unfolding(crate::specs::Test::fits_ok))]
 fn fits_ok(nums: &[u64], names: &[u8], dirs: &[u8], pool: Pool) -> bool
     requires { Sized pool (length nums.now) (length names.now) (length dirs.now) }
     ensures { result ≡ fits_ok (bufs pool nums.now names.now dirs.now) }
 {
-    let n = pool.held;
-    let m = pool.dirs;
-    if !(0..n).all(|i| row_fits(nums, names, i)) {
-        return false;
-    }
-    (0..m).all(|j| dir_fits(dirs, j))
+    slots_fit(nums, names, pool.held) && dirs_fit(dirs, pool.dirs)
 }
 
 // ---- slot rows
 
-// Row i's path, where it stands in the buffer.
-fn row_path<'a>(nums: &[u64], names: &'a [u8], cap: usize, n: usize, i: usize) -> &'a [u8]
-    requires { Flat cap n nums.now names.now × (i < n) }
-    ensures { result.now ≡ path_of (at (rows_of nums.now names.now n) i) }
-{
-    let k = slot_rows::path_len(nums, names, cap, n, i);
-    let from = i * MAX_PATH;
-    &names[from..from + k]
-}
-
 // The keys of the rows' paths.
-fn row_keys(nums: &[u64], names: &[u8], cap: usize, n: usize, keys: &mut [u32])
-    requires { Flat cap n nums.now names.now × (n ≤ length keys.old) }
-    ensures { Keys key_of (λ i. path_of (at (rows_of nums.now names.now n) i)) n keys.new }
+fn row_keys(rows: &Rows, keys: &mut [u32])
+    requires { Lie rows.now × (rows.now.n ≤ length keys.old) }
+    ensures { Keys key_of (λ i. path_of (at (held rows.now) i)) rows.now.n keys.new }
 {
-    for i in 0..n {
-        keys[i] = path::key(row_path(nums, names, cap, n, i));
+    for i in 0..rows.n {
+        keys[i] = path::key(rows.path(i));
     }
 }
 
 // Whether row i is unbound, or no row before it has its path. Only where a key before it is the same are paths compared.
-#[tactic(auto, unfolding(crate::specs::Test::first_ok))]
-fn first_ok(nums: &[u64], names: &[u8], keys: &[u32], cap: usize, n: usize, i: usize) -> bool
-    requires { Flat cap n nums.now names.now
-        × Keys key_of (λ j. path_of (at (rows_of nums.now names.now n) j)) n keys.now
-        × (i < n) }
-    ensures { result ≡ first_ok (rows_of nums.now names.now n) i }
+#[tactic(auto, using(crate::proofs::Filters::first_alone), unfolding(crate::specs::Test::first_ok))]
+fn first_ok(rows: &Rows, keys: &[u32], i: usize) -> bool
+    requires { Lie rows.now
+        × Keys key_of (λ j. path_of (at (held rows.now) j)) rows.now.n keys.now
+        × (i < rows.now.n) }
+    ensures { result ≡ first_ok (held rows.now) i }
 {
-    if !slot_rows::is_bound(nums, names, cap, n, i) {
-        return true;
-    }
-    if !keys[..i].contains(&keys[i]) {
-        return true;
-    }
-    slot_rows::find_row(nums, names, cap, n, row_path(nums, names, cap, n, i)) == i
+    !rows.is_bound(i) || !keys[..i].contains(&keys[i]) || rows.find_row(rows.path(i)) == i
 }
 
 // Whether row i is below the counter c, and its path is text and its own.
 #[tactic(auto, unfolding(crate::specs::Test::row_ok))]
-fn row_ok(nums: &[u64], names: &[u8], keys: &[u32], cap: usize, n: usize, c: u64, i: usize) -> bool
-    requires { Flat cap n nums.now names.now
-        × Keys key_of (λ j. path_of (at (rows_of nums.now names.now n) j)) n keys.now
-        × (i < n) }
-    ensures { result ≡ row_ok c (rows_of nums.now names.now n) i }
+fn row_ok(rows: &Rows, keys: &[u32], c: u64, i: usize) -> bool
+    requires { Lie rows.now
+        × Keys key_of (λ j. path_of (at (held rows.now) j)) rows.now.n keys.now
+        × (i < rows.now.n) }
+    ensures { result ≡ row_ok c (held rows.now) i }
 {
-    if c <= slot_rows::row_generation(nums, names, cap, n, i) {
-        return false;
-    }
-    if !text::is_text(row_path(nums, names, cap, n, i)) {
-        return false;
-    }
-    first_ok(nums, names, keys, cap, n, i)
+    rows.row_generation(i) < c && text::is_text(rows.path(i)) && first_ok(rows, keys, i)
 }
 
 // Whether each row is. The keys are worked out once.
-fn slots_ok(nums: &[u64], names: &[u8], cap: usize, n: usize, c: u64) -> bool
-    requires { Flat cap n nums.now names.now × (n ≤ 64) }
-    ensures { result ≡ all_of (row_ok c (rows_of nums.now names.now n)) 0 n }
+fn slots_ok(rows: &Rows, c: u64) -> bool
+    requires { Lie rows.now × (rows.now.n ≤ 64) }
+    ensures { result ≡ all_of (row_ok c (held rows.now)) 0 rows.now.n }
 {
     let mut keys = [0u32; 64];
-    row_keys(nums, names, cap, n, &mut keys);
-    (0..n).all(|i| row_ok(nums, names, &keys, cap, n, c, i))
+    row_keys(rows, &mut keys);
+    (0..rows.n).all(|i| row_ok(rows, &keys, c, i))
 }
 
 // ---- the queue
 
 // Whether cell k is an unbound slot that no cell before it is.
-#[tactic(auto, using(slot_rows::proofs::InBuffers::length_rows), unfolding(crate::specs::Test::cell_ok))]
-fn cell_ok(nums: &[u64], names: &[u8], cap: usize, n: usize, q: [u8; 64], k: usize) -> bool
-    requires { Flat cap n nums.now names.now × (k < 64) }
-    ensures { result ≡ cell_ok (rows_of nums.now names.now n) q k }
+#[tactic(auto, using(slot_rows::proofs::InBuffers::length_rows, crate::proofs::Turns::num_told), unfolding(crate::specs::Test::cell_ok))]
+fn cell_ok(rows: &Rows, q: &[u8], k: usize) -> bool
+    requires { Lie rows.now × (k < length q.now) }
+    ensures { result ≡ cell_ok (held rows.now) q.now k }
 {
-    let x = q[k];
-    let i = usize::from(x);
-    if n <= i {
-        return false;
-    }
-    if slot_rows::is_bound(nums, names, cap, n, i) {
-        return false;
-    }
-    !q[..k].contains(&x)
+    let i = usize::from(q[k]);
+    i < rows.n && !rows.is_bound(i) && !q[..k].contains(&q[k])
+}
+
+// Whether each of the first m cells is.
+fn queue_ok(rows: &Rows, q: &[u8], m: usize) -> bool
+    requires { Lie rows.now × (m ≤ length q.now) }
+    ensures { result ≡ all_of (cell_ok (held rows.now) q.now) 0 m }
+{
+    (0..m).all(|k| cell_ok(rows, q, k))
 }
 
 // ---- directories
 
 // A directory is normal if its parent's row is and no slash from there on is idle, so only the last component is looked at. Rows that are
 // normal are one path only if they are the same bytes, so keys and comparisons go by bytes.
-
-// Directory j, where it stands in the buffer.
-fn dir_path(dirs: &[u8], j: usize) -> &[u8]
-    requires { j * dir_width + dir_width ≤ length dirs.now }
-    ensures { result.now ≡ dir_at dirs.now j }
-{
-    let k = dir_rows::dir_len(dirs, j);
-    let at = j * DIR_WIDTH + 2;
-    &dirs[at..at + k]
-}
 
 // The keys of the directories.
 fn dir_keys(dirs: &[u8], m: usize, keys: &mut [u32])
@@ -266,7 +208,7 @@ fn dir_keys(dirs: &[u8], m: usize, keys: &mut [u32])
 }
 
 // Whether directory j is p, whose key is f, byte for byte.
-#[tactic(auto, using(crate::proofs::Turns::same_told), unfolding(crate::specs::Keys::is_dir))]
+#[tactic(auto, using(crate::proofs::Turns::same_told, crate::proofs::Filters::text_other), unfolding(crate::specs::Keys::is_dir))]
 fn dir_is(dirs: &[u8], keys: &[u32], j: usize, f: u32, p: &[u8]) -> bool
     requires { (j * dir_width + dir_width ≤ length dirs.now)
         × (j < length keys.now)
@@ -274,10 +216,7 @@ fn dir_is(dirs: &[u8], keys: &[u32], j: usize, f: u32, p: &[u8]) -> bool
         × (f ≡ text_key p.now) }
     ensures { result ≡ is_dir dirs.now p.now j }
 {
-    if keys[j] != f {
-        return false;
-    }
-    dir_path(dirs, j) == p
+    keys[j] == f && dir_path(dirs, j) == p
 }
 
 // Whether p, whose key is f, is one of the first m directories, byte for byte.
@@ -289,21 +228,19 @@ fn has_dir(dirs: &[u8], keys: &[u32], m: usize, f: u32, p: &[u8]) -> bool
 }
 
 // The same, with a look at the rows beside row j first: there a directory's parent stands most often.
+#[tactic(auto, using(crate::proofs::Filters::dir_hit))]
 fn has_near(dirs: &[u8], keys: &[u32], m: usize, j: usize, p: &[u8]) -> bool
     requires { (m * dir_width ≤ length dirs.now) × Keys text_key (dir_at dirs.now) m keys.now × (j < m) }
     ensures { result ≡ has_dir dirs.now m p.now }
 {
     let f = path::text_key(p);
-    if 0 < j && dir_is(dirs, keys, j - 1, f, p) {
-        return true;
-    }
-    if j + 1 < m && dir_is(dirs, keys, j + 1, f, p) {
-        return true;
-    }
-    has_dir(dirs, keys, m, f, p)
+    (0 < j && dir_is(dirs, keys, j - 1, f, p))
+        || (j + 1 < m && dir_is(dirs, keys, j + 1, f, p))
+        || has_dir(dirs, keys, m, f, p)
 }
 
 // Whether a directory before j, whose path is p, is the same bytes.
+#[tactic(auto, using(crate::proofs::Filters::none_before))]
 fn seen_before(dirs: &[u8], keys: &[u32], m: usize, j: usize, p: &[u8]) -> bool
     requires { (m * dir_width ≤ length dirs.now)
         × Keys text_key (dir_at dirs.now) m keys.now
@@ -311,10 +248,7 @@ fn seen_before(dirs: &[u8], keys: &[u32], m: usize, j: usize, p: &[u8]) -> bool
         × (p.now ≡ dir_at dirs.now j) }
     ensures { result ≡ has_dir dirs.now j p.now }
 {
-    if !keys[..j].contains(&keys[j]) {
-        return false;
-    }
-    has_dir(dirs, keys, j, keys[j], p)
+    keys[..j].contains(&keys[j]) && has_dir(dirs, keys, j, keys[j], p)
 }
 
 // From where on x has to be looked at, if its front that ends at e is known to be normal: from the slash at e on, or else from 0 on.
@@ -322,19 +256,14 @@ fn tail_at(x: &[u8], e: usize) -> usize
     requires { e ≤ length x.now }
     ensures { Tail x.now e result }
 {
-    if e < 2 {
-        return 0;
+    if 2 <= e && e + 2 <= x.len() && x[e] == b'/' {
+        return e;
     }
-    if x.len() - e < 2 {
-        return 0;
-    }
-    if x[e] != b'/' {
-        return 0;
-    }
-    e
+    0
 }
 
 // Whether x, which is directory j, is normal if the directories are, and its nearest ancestor, if it has one, is a directory.
+#[tactic(auto, using(crate::proofs::Upright::up_cut, crate::proofs::Upright::up_one))]
 fn up_held(dirs: &[u8], keys: &[u32], m: usize, j: usize, x: &[u8]) -> bool
     requires { (m * dir_width ≤ length dirs.now)
         × Keys text_key (dir_at dirs.now) m keys.now
@@ -350,25 +279,20 @@ fn up_held(dirs: &[u8], keys: &[u32], m: usize, j: usize, x: &[u8]) -> bool
     if e == 0 {
         return true;
     }
-    if e == k {
-        return has_near(dirs, keys, m, j, &x[..e]);
-    }
-    if e == 1 {
+    if e == k || e == 1 {
         return has_near(dirs, keys, m, j, &x[..e]);
     }
     dir_rows::dir_find(dirs, m, &x[..e])
 }
 
 // Whether directory j is the first of its bytes, and as `up_held` says.
+#[tactic(auto, using(crate::proofs::Upright::seen_no, crate::proofs::Upright::seen_none))]
 fn dir_ok(dirs: &[u8], keys: &[u32], m: usize, j: usize) -> bool
     requires { (m * dir_width ≤ length dirs.now) × Keys text_key (dir_at dirs.now) m keys.now × (j < m) }
     ensures { Judged (Fine dirs.now m j) dirs.now m result }
 {
     let x = dir_path(dirs, j);
-    if seen_before(dirs, keys, m, j, x) {
-        return false;
-    }
-    up_held(dirs, keys, m, j, x)
+    !seen_before(dirs, keys, m, j, x) && up_held(dirs, keys, m, j, x)
 }
 
 // Whether each directory is normal, the first of its path, and its nearest ancestor a directory. The keys are worked out once.
@@ -390,33 +314,24 @@ fn view_ok(nums: &[u64], names: &[u8], dirs: &[u8], pool: Pool) -> bool
         × Flat pool.chosen.rows pool.held nums.now names.now }
     ensures { result ≡ view_ok (bufs pool nums.now names.now dirs.now) }
 {
-    let cap = pool.chosen.rows;
-    let n = pool.held;
-    let m = pool.dirs;
-    let free = pool.free;
-    let q = pool.queue;
-    if !slots_ok(nums, names, cap, n, pool.counter) {
-        return false;
-    }
-    if !(0..free).all(|k| cell_ok(nums, names, cap, n, q, k)) {
-        return false;
-    }
-    directories_ok(dirs, m)
+    let rows = Rows {
+        nums,
+        names,
+        cap: pool.chosen.rows,
+        n: pool.held,
+    };
+    slots_ok(&rows, pool.counter)
+        && queue_ok(&rows, &pool.queue, pool.free)
+        && directories_ok(dirs, pool.dirs)
 }
 
 // Whether the record and its rows are a pool.
-#[tactic(auto, using(crate::proofs::FlatForms::sized), unfolding(crate::specs::Test::is_pool))]
+#[tactic(auto, using(crate::proofs::FlatForms::sized, crate::proofs::FlatForms::fit_flat), unfolding(crate::specs::Test::is_pool))]
 pub fn pool_ok(nums: &[u64], names: &[u8], dirs: &[u8], pool: Pool) -> bool
     ensures { result ≡ is_pool (bufs pool nums.now names.now dirs.now) }
 {
-    if !sizes_ok(pool, nums.len(), names.len(), dirs.len()) {
-        return false;
-    }
-    if !rest_ok(nums, names, dirs, pool) {
-        return false;
-    }
-    if !fits_ok(nums, names, dirs, pool) {
-        return false;
-    }
-    view_ok(nums, names, dirs, pool)
+    sizes_ok(pool, nums.len(), names.len(), dirs.len())
+        && rest_ok(nums, names, dirs, pool)
+        && fits_ok(nums, names, dirs, pool)
+        && view_ok(nums, names, dirs, pool)
 }
