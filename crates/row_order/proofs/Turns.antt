@@ -40,9 +40,6 @@ pub record Narrow (less : ℕ → ℕ → Bool) (x : ℕ) (s : List ℕ) (low hi
   pub above : (j : ℕ) → high ≤ j → j < length s → less x (get_or s j 0) ≡ true
 
 module _ (less : ℕ → ℕ → Bool) (x : ℕ) (s : List ℕ) where
-  pub narrow_start : (high : ℕ) → high ≡ length s → Narrow less x s 0 high
-  narrow_start high e = record { wide = omega arith; fits = omega arith; below = λ j h. absurd (omega arith); above = λ j h k. absurd (omega arith) }
-
   pub narrow_end : (low high : ℕ) → Narrow less x s low high → high ≤ low → low ≡ place less x s
   narrow_end low high n h = place_is less x s low (omega (arith, n.wide, n.fits)) n.below (λ k. n.above low h k)
 
@@ -66,9 +63,6 @@ behind b l mid e = let z : mid + 1 ≡ 1 + mid = omega arith in rw (get_or-drop 
 pub sort_start : (b d : List ℕ) → d ≡ take (length d) d ++ sort (span_before b) (drop (length d) d)
 unfolding sort
 sort_start b d = rw (drop-length, take-length) (sym (append-nil d))
-
-pub sort_end : (b d₀ d : List ℕ) (i : ℕ) → i ≤ 0 → d ≡ take i d₀ ++ sort (span_before b) (drop i d₀) → d ≡ sort (span_before b) d₀
-sort_end b d₀ d i h e = let z : i ≡ 0 = omega arith in rw z at e
 
 pub sorted_long : (b d₀ d : List ℕ) (i : ℕ) → d ≡ take i d₀ ++ sort (span_before b) (drop i d₀) → length d ≡ length d₀
 sorted_long b d₀ d i e =

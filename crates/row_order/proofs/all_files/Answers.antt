@@ -1,33 +1,8 @@
 -- The invariant `Picking`: what is still to be picked makes the whole of it.
 use mathlib.Core.Path.{sym, ◌∙◌}
-use Rattle.row_order.specs.Picks.{picking_start, picking_yes, picking_no, picking_end, file_spans_lem}
-use native.Mathlib.Omega.{arith}
+use Rattle.row_order.specs.Picks.{picking_yes, picking_no, picking_end, file_spans_lem}
 use Rattle.row_order.proofs.all_files.Goals as goal
 use Rattle.row_order.proofs.all_files.Goals.{then-is_bound, else-is_bound}
-
-pub loop-i-init : goal.loop-i-init
-loop-i-init c =
-    picking_start _ _ _ _
-
-pub is_bound-requires : goal.is_bound-requires
-is_bound-requires c =
-    (c.requires.0, c.loop-i-test.true)
-
-pub file_span-requires : goal.file_span-requires
-file_span-requires c =
-    (c.requires.0, c.loop-i-test.true, c.requires.1)
-
-pub offset_bounds-spans-count : goal.offset_bounds-spans-count
-offset_bounds-spans-count c =
-    omega (arith, c.loop-i.invariant.few, c.loop-i.invariant.long)
-
-pub bounds-spans-count : goal.bounds-spans-count
-bounds-spans-count c =
-    omega (arith, c.loop-i.invariant.few, c.loop-i.invariant.long)
-
-pub overflow_add-count : goal.overflow_add-count
-overflow_add-count c =
-    omega (arith, c.loop-i.invariant.few, c.loop-i.invariant.long)
 
 pub loop-i-preserved : goal.loop-i-preserved
 loop-i-preserved c =

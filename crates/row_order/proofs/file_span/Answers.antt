@@ -3,12 +3,7 @@ use Prim.Native.Nat.{◌*◌}
 use mathlib.Core.Path.{ap, ◌∙◌}
 use Rattle.limits.specs.Limits.{max_path}
 use Rattle.row_order.specs.Spans.{span, file_span}
-use native.Mathlib.Omega.{arith}
 use Rattle.row_order.proofs.file_span.Goals as goal
-
-pub span-requires : goal.span-requires
-span-requires c =
-    omega (arith, c.path_len-len.ensures, c.requires.0.short c.args.i)
 
 pub returns : goal.returns
 unfolding file_span
