@@ -8,8 +8,9 @@ use native.Mathlib.Nat.{add-sub_cancel_left}
 use mathlib.Core.Path.{◌≡◌, refl, sym, ap, ◌∙◌}
 use mathlib.Core.Bool.{Bool, true, false}
 use mathlib.Core.List.{List, [], ◌∷◌, ◌++◌, append_assoc, append-nil}
-use lib.ListN.{length, get_or, take, drop, length-append, length-take, length-drop}
+use lib.ListN.{drop_of_length-le, length, get_or, take, drop, length-append, length-take, length-drop}
 use lib.Seq.{take_all, take-length, drop-length, take_at, drop_at, drop-cons, take-suc, get_or-drop, length-take-le}
+use Rattle.std.proofs.lemmas.List.Edits.{sets, sets-eq}
 use Rattle.lists.specs.Sort.{sort, is_less}
 use Rattle.path.specs.Path.{path_order}
 use Rattle.row_order.specs.Spans.{spelled, AllInside, span_before}
@@ -117,3 +118,14 @@ module _ (b d₀ d : List ℕ) (i p : ℕ) (z : i ≡ suc p) (h : p < length d�
         let y : ys ≡ take k rest ++ x ∷ [] = rw (n, behind_front) at f in
         let t : take p d ≡ take p d₀ = ap (take p) whole ∙ take_at (take p d₀) (x ∷ rest) p front in
         w ∙ rw (t, y, n, behind_front, append_assoc, placed, drop-cons d₀ p 0 h) (ap (λ (r : List ℕ). take p d₀ ++ r) (sym (insert_place (span_before b) x rest)))
+
+-- ---- a part that is written over
+
+-- What is written over the first m elements is written over the front of the list.
+pub sets_part : (d vs : List ℕ) (m : ℕ) → length vs ≡ m → m ≤ length d → sets (take m d) 0 vs ++ drop m d ≡ sets d 0 vs
+sets_part d vs m e h =
+    let n : length (take m d) ≡ m = length-take-le m d h in
+    let z : drop (0 + length vs) (take m d) ≡ [] = drop_of_length-le (take m d) (omega arith) in
+    let k : 0 + length vs ≡ m = omega arith in
+    ap (λ (x : List ℕ). x ++ drop m d) (sets-eq vs (take m d) 0 (omega arith) ∙ ap (λ (x : List ℕ). vs ++ x) z ∙ append-nil vs)
+    ∙ sym (sets-eq vs d 0 (omega arith) ∙ ap (λ (n : ℕ). vs ++ drop n d) k)
