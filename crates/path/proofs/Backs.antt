@@ -2,7 +2,7 @@
 use Rattle.std.specs.Prelude.{None, Option, Some}
 use Rattle.std.specs.Option.{is_some}
 use mathlib.Core.Bool.{false≢true}
-use Rattle.std.proofs.Common.{◌≡◌, ℕ, zero, suc, ◌+◌, ◌-◌, ◌<◌, ◌≤◌, Bool, true, false, cond, not, ◌⊎◌, List, [], ◌∷◌, ◌++◌, length, get_or, take, drop, sym, refl, ap, ◌∙◌, subst, inl, inr, ⊎_elim, append_assoc, append-nil, arith, length-append, take-append-drop, length-take, length-drop, length-take-le, take_all, take-suc, take-take, take-add, eq-eqb, ne_eqb}
+use Rattle.std.proofs.Common.{◌≡◌, ℕ, zero, suc, ◌+◌, ◌-◌, ◌<◌, ◌≤◌, Bool, true, false, cond, not, ◌⊎◌, List, [], ◌∷◌, ◌++◌, length, get_or, take, drop, sym, refl, ap, ◌∙◌, subst, inl, inr, ⊎_elim, append_assoc, append-nil, arith, length-append, take-append-drop, length-take, length-drop, length-take-le, take-suc, take-take, take-add, eq-eqb, ne_eqb}
 use lib.Seq.{get_or-drop}
 use Rattle.std.proofs.lemmas.List.{get_or-take}
 use Rattle.le.proofs.Parts.{part_append}
@@ -106,9 +106,6 @@ module _ (s : List ℕ) (a e : ℕ) (w : Starts s e a) (l : e ≤ length s) wher
       ∙ ap (λ (cs : List (List ℕ)). components (take a s) ++ cs) (rest_one (take (e - a) (drop a s)) w.free n)
 
 -- ---- the last component
-
-pub last_start : (s : List ℕ) → components s ≡ components (take (length s) s)
-last_start s = ap components (sym (take_all (length s) s (omega arith)))
 
 pub last_empty : (s : List ℕ) (e : ℕ) → components s ≡ components (take e s) → e ≤ 0 → components s ≡ []
 last_empty s e m z =

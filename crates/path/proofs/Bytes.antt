@@ -1,6 +1,5 @@
 -- Equality of bytes: as the library tests it, and eight of them read as a number.
-use Rattle.std.proofs.Common.{◌≡◌, ℕ, ◌+◌, ◌≤◌, Bool, true, false, cond, ◌&&◌, eqb, List, [], ◌∷◌, ◌++◌, length, take, drop, sym, refl, ap, ◌∙◌, arith, length-take-le, take_all, take-add}
-use lib.Seq.{take-length}
+use Rattle.std.proofs.Common.{◌≡◌, ℕ, ◌+◌, ◌≤◌, Bool, true, false, cond, ◌&&◌, eqb, List, [], ◌∷◌, ◌++◌, length, take, drop, sym, refl, ap, ◌∙◌, arith, length-take-le, take-add}
 use lib.Pointwise.{pointwise}
 use Rattle.le.specs.Le.{le, unle, Bytes}
 use Rattle.le.proofs.Fields.{field_back}
@@ -43,7 +42,3 @@ module _ (a b : List ℕ) (i : ℕ) where
     where
       eight : (l : List ℕ) → take j l ≡ take i l ++ take 8 (drop i l)
       eight l = ap (λ (x : ℕ). take x l) q ∙ take-add i 8 l
-
--- all of both is before their end
-pub words_start : (a b : List ℕ) → length a ≡ length b → same_bytes a b ≡ same_bytes (take (length a) a) (take (length a) b)
-words_start a b h = rw (take-length a, take_all (length a) b (omega arith))

@@ -8,8 +8,9 @@ use native.Mathlib.Nat.{add-sub_cancel_left}
 use mathlib.Core.Path.{◌≡◌, refl, sym, ap, ◌∙◌}
 use mathlib.Core.Bool.{Bool, true, false}
 use mathlib.Core.List.{List, [], ◌∷◌, ◌++◌, append_assoc, append-nil}
-use lib.ListN.{length, get_or, take, drop, length-append, length-take, length-drop}
+use lib.ListN.{drop_of_length-le, length, get_or, take, drop, length-append, length-take, length-drop}
 use lib.Seq.{take_all, take-length, drop-length, take_at, drop_at, drop-cons, take-suc, get_or-drop, length-take-le}
+use Rattle.std.proofs.lemmas.List.Edits.{sets, sets-eq}
 use Rattle.lists.specs.Sort.{sort, is_less}
 use Rattle.path.specs.Path.{path_order}
 use Rattle.row_order.specs.Spans.{spelled, AllInside, span_before}
@@ -40,9 +41,6 @@ pub record Narrow (less : ℕ → ℕ → Bool) (x : ℕ) (s : List ℕ) (low hi
   pub above : (j : ℕ) → high ≤ j → j < length s → less x (get_or s j 0) ≡ true
 
 module _ (less : ℕ → ℕ → Bool) (x : ℕ) (s : List ℕ) where
-  pub narrow_start : (high : ℕ) → high ≡ length s → Narrow less x s 0 high
-  narrow_start high e = record { wide = omega arith; fits = omega arith; below = λ j h. absurd (omega arith); above = λ j h k. absurd (omega arith) }
-
   pub narrow_end : (low high : ℕ) → Narrow less x s low high → high ≤ low → low ≡ place less x s
   narrow_end low high n h = place_is less x s low (omega (arith, n.wide, n.fits)) n.below (λ k. n.above low h k)
 
@@ -66,9 +64,6 @@ behind b l mid e = let z : mid + 1 ≡ 1 + mid = omega arith in rw (get_or-drop 
 pub sort_start : (b d : List ℕ) → d ≡ take (length d) d ++ sort (span_before b) (drop (length d) d)
 unfolding sort
 sort_start b d = rw (drop-length, take-length) (sym (append-nil d))
-
-pub sort_end : (b d₀ d : List ℕ) (i : ℕ) → i ≤ 0 → d ≡ take i d₀ ++ sort (span_before b) (drop i d₀) → d ≡ sort (span_before b) d₀
-sort_end b d₀ d i h e = let z : i ≡ 0 = omega arith in rw z at e
 
 pub sorted_long : (b d₀ d : List ℕ) (i : ℕ) → d ≡ take i d₀ ++ sort (span_before b) (drop i d₀) → length d ≡ length d₀
 sorted_long b d₀ d i e =
@@ -123,3 +118,14 @@ module _ (b d₀ d : List ℕ) (i p : ℕ) (z : i ≡ suc p) (h : p < length d�
         let y : ys ≡ take k rest ++ x ∷ [] = rw (n, behind_front) at f in
         let t : take p d ≡ take p d₀ = ap (take p) whole ∙ take_at (take p d₀) (x ∷ rest) p front in
         w ∙ rw (t, y, n, behind_front, append_assoc, placed, drop-cons d₀ p 0 h) (ap (λ (r : List ℕ). take p d₀ ++ r) (sym (insert_place (span_before b) x rest)))
+
+-- ---- a part that is written over
+
+-- What is written over the first m elements is written over the front of the list.
+pub sets_part : (d vs : List ℕ) (m : ℕ) → length vs ≡ m → m ≤ length d → sets (take m d) 0 vs ++ drop m d ≡ sets d 0 vs
+sets_part d vs m e h =
+    let n : length (take m d) ≡ m = length-take-le m d h in
+    let z : drop (0 + length vs) (take m d) ≡ [] = drop_of_length-le (take m d) (omega arith) in
+    let k : 0 + length vs ≡ m = omega arith in
+    ap (λ (x : List ℕ). x ++ drop m d) (sets-eq vs (take m d) 0 (omega arith) ∙ ap (λ (x : List ℕ). vs ++ x) z ∙ append-nil vs)
+    ∙ sym (sets-eq vs d 0 (omega arith) ∙ ap (λ (n : ℕ). vs ++ drop n d) k)

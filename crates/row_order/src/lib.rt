@@ -133,7 +133,7 @@ pub fn all_dirs(dirs: &[u8], m: usize, spans: &mut [u32])
     requires { (m * dir_width ≤ length dirs.now) × (m ≤ 256) × (m ≤ length spans.old) }
     ensures { spans.new ≡ sets spans.old 0 (dir_spans (dirs_of dirs.now m)) }
 {
-    for j in 0..m {
-        spans[j] = dir_span(dirs, m, j);
+    for (j, x) in spans[..m].iter_mut().enumerate() {
+        *x = dir_span(dirs, m, j);
     }
 }

@@ -1,12 +1,8 @@
 -- The invariant: the front up to `e` has all the components. `last_name` says what the last part of it is.
 use Rattle.std.proofs.Common.{◌∙◌, arith}
-use Rattle.path.proofs.Backs.{starts_some, back_slash, back_dot, last_start, last_empty, last_root, last_first, last_name}
+use Rattle.path.proofs.Backs.{starts_some, back_slash, back_dot, last_empty, last_root, last_first, last_name}
 use Rattle.path.proofs.Walks.{idle_dot, idle_byte, idle_long}
 use Rattle.path.proofs.last.Goals as goal
-
-pub loop-e-init : goal.loop-e-init
-loop-e-init c =
-    (omega arith, last_start c.args.s.now)
 
 pub returns-then-e-eq1 : goal.returns-then-e-eq1
 returns-then-e-eq1 c =
@@ -25,10 +21,6 @@ returns-then-a-eq0 c =
     let p = c.part_start-a in
     let h = starts_some s loop.e p.result p.ensures c.loop-e-test.true c.if-s-e-eq47.false in
     last_first s p.result loop.e loop.invariant.1 p.ensures loop.invariant.0 h c.if-a-eq0.true
-
-pub overflow_add-a : goal.overflow_add-a
-overflow_add-a c =
-    omega (arith, c.part_start-a.ensures.inside)
 
 pub returns-then-e-a : goal.returns-then-e-a
 returns-then-e-a c =

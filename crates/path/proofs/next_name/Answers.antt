@@ -1,11 +1,7 @@
 -- The invariant: the components behind `i` are those behind `at`. `name_some` takes the next part that stays.
-use Rattle.std.proofs.Common.{◌<◌, refl, ◌∙◌, arith}
+use Rattle.std.proofs.Common.{◌<◌, ◌∙◌, arith}
 use Rattle.path.proofs.Walks.{part_some, rest_slash_at, rest_dot, idle_long, idle_byte, name_some, name_none}
 use Rattle.path.proofs.next_name.Goals as goal
-
-pub loop-at-init : goal.loop-at-init
-loop-at-init c =
-    (omega arith, omega arith, refl)
 
 pub loop-at-preserved-then-s-at-eq47 : goal.loop-at-preserved-then-s-at-eq47
 loop-at-preserved-then-s-at-eq47 c =

@@ -2,26 +2,13 @@
 use Rattle.std.proofs.Common.{◌-◌, eqb, sym, ◌∙◌, arith}
 use Rattle.le.specs.Le.{Bytes}
 use Rattle.lists.specs.Same.{same_length}
-use Rattle.path.proofs.Bytes.{bytes_pointwise, words_start, words_next, words_differ}
+use Rattle.path.proofs.Bytes.{bytes_pointwise, words_next, words_differ}
 use Rattle.path.proofs.same_bytes.Goals as goal
 
 pub returns-then-n-b : goal.returns-then-n-b
 returns-then-n-b c =
     let args = c.args in
     sym (same_length eqb args.a.now args.b.now c.if-n-b.true)
-
-pub loop-i-init : goal.loop-i-init
-loop-i-init c =
-    let args = c.args in
-    (omega arith, words_start args.a.now args.b.now c.if-n-b.false)
-
-pub get_at-requires : goal.get_at-requires
-get_at-requires c =
-    (omega arith, omega arith)
-
-pub get_at-requires-in-loop-i : goal.get_at-requires-in-loop-i
-get_at-requires-in-loop-i c =
-    (omega arith, omega arith)
 
 pub returns-then-get_at : goal.returns-then-get_at
 returns-then-get_at c =

@@ -1,29 +1,22 @@
--- The invariant `Picking`, where every row is picked.
-use mathlib.Core.Path.{refl}
-use Rattle.row_order.specs.Picks.{picking_start, picking_yes, picking_end, dir_spans_lem}
+-- The invariant `Picking` of the part that is written, where every row is picked; `sets_part` puts the part back.
+use mathlib.Core.Path.{refl, ap, ◌∙◌}
+use mathlib.Core.List.{◌++◌}
 use native.Mathlib.Omega.{arith}
+use lib.ListN.{drop, length-take}
+use Prim.Native.Nat.{ℕ}
+use mathlib.Core.List.{List}
+use Rattle.row_order.specs.AllDirs.{dirs_many}
+use Rattle.row_order.specs.Picks.{picking_yes, picking_end, dir_spans_lem}
+use Rattle.row_order.proofs.Turns.{sets_part}
 use Rattle.row_order.proofs.all_dirs.Goals as goal
-
-pub loop-j-init : goal.loop-j-init
-loop-j-init c =
-    picking_start _ _ _ _
-
-pub dir_span-requires : goal.dir_span-requires
-dir_span-requires c =
-    (c.requires.0, c.loop-j-test.true, c.requires.1)
-
-pub offset_bounds-spans-j : goal.offset_bounds-spans-j
-offset_bounds-spans-j c =
-    omega (arith, c.loop-j.invariant.long)
-
-pub bounds-spans-j : goal.bounds-spans-j
-bounds-spans-j c =
-    omega (arith, c.loop-j.invariant.long)
 
 pub loop-j-preserved : goal.loop-j-preserved
 loop-j-preserved c =
-    picking_yes _ _ _ _ _ _ _ c.loop-j.invariant c.loop-j-test.true _ refl c.dir_span.ensures
+    let p = c.loop-j.invariant in
+    picking_yes _ _ _ _ _ _ _ p (omega (arith, p.long, length-take c.args.m c.args.spans.now)) _ refl c.dir_span.ensures
 
 pub returns : goal.returns
 returns c =
-    (picking_end _ _ _ _ _ _ _ c.loop-j.invariant _ c.loop-j-test.false (dir_spans_lem _ _)).1
+    let p = c.loop-j.invariant in
+    let e = picking_end _ _ _ _ _ _ _ p _ (omega (arith, p.long, length-take c.args.m c.args.spans.now)) (dir_spans_lem _ _) in
+    ap (λ (x : List ℕ). x ++ drop c.args.m c.args.spans.now) e.1 ∙ sets_part c.args.spans.now _ _ (dirs_many _ _ c.requires.0) c.requires.2

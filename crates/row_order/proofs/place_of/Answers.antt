@@ -2,29 +2,9 @@
 use mathlib.Core.Path.{sym, ◌∙◌}
 use lib.ListN.{length-drop}
 use Rattle.row_order.specs.InOrder.{before_levels, inside_get}
-use Rattle.row_order.proofs.Turns.{narrow_start, narrow_end, narrow_down, narrow_up, behind}
+use Rattle.row_order.proofs.Turns.{narrow_end, narrow_down, narrow_up, behind}
 use native.Mathlib.Omega.{arith}
 use Rattle.row_order.proofs.place_of.Goals as goal
-
-pub loop-low-init : goal.loop-low-init
-loop-low-init c =
-    narrow_start _ _ _ _ (sym (length-drop 1 c.args.spans.now))
-
-pub overflow_add-mid : goal.overflow_add-mid
-overflow_add-mid c =
-    omega (arith, c.loop-low.invariant.fits, length-drop 1 c.args.spans.now)
-
-pub overflow_add-mid-in-loop-low : goal.overflow_add-mid-in-loop-low
-overflow_add-mid-in-loop-low c =
-    omega (arith, c.loop-low.invariant.fits, length-drop 1 c.args.spans.now)
-
-pub offset_bounds-spans-mid : goal.offset_bounds-spans-mid
-offset_bounds-spans-mid c =
-    omega (arith, c.loop-low.invariant.fits, length-drop 1 c.args.spans.now)
-
-pub bounds-spans-mid : goal.bounds-spans-mid
-bounds-spans-mid c =
-    omega (arith, c.loop-low.invariant.fits, length-drop 1 c.args.spans.now)
 
 pub comes_before-requires : goal.comes_before-requires
 comes_before-requires c = (
@@ -37,14 +17,6 @@ pub loop-low-preserved-then-comes_before : goal.loop-low-preserved-then-comes_be
 loop-low-preserved-then-comes_before c =
     narrow_down _ _ _ (before_levels _) c.requires.2 _ _ _ c.loop-low.invariant (omega arith) (omega arith)
     (behind c.args.bytes.now c.args.spans.now _ (sym c.comes_before.ensures ∙ c.if-comes_before.true))
-
-pub overflow_add-low : goal.overflow_add-low
-overflow_add-low c =
-    omega (
-      arith,
-      c.loop-low.invariant.fits,
-      (length-drop 1 c.args.spans.now),
-    )
 
 pub loop-low-preserved : goal.loop-low-preserved
 loop-low-preserved c =
