@@ -4,7 +4,7 @@
 // put into scripts, and are replayed; a script's record and shape are always its own.
 #![tactic(auto)]
 
-ghost use Rattle.std.specs.Prelude.{◌≡◌, min, length};
+ghost use Rattle.std.specs.Prelude.{◌≡◌, length};
 
 use calls_gate::{Call, Reply};
 use device::{Geometry, Place};
@@ -57,13 +57,6 @@ fn blank(size: usize, lengths: Lengths) -> Setting {
     }
 }
 
-// The lesser of two numbers.
-fn least(a: usize, b: usize) -> usize
-    ensures { result ≡ min a b }
-{
-    if a < b { a } else { b }
-}
-
 // Makes a call on the part of the buffers that is lent, under an empty plan.
 fn on_parts(
     bytes: &mut [u8],
@@ -77,11 +70,11 @@ fn on_parts(
     call: Call,
     path: &[u8],
 ) -> Reply {
-    let b = least(lengths.bytes, bytes.len());
-    let p = least(lengths.phys, phys.len());
-    let n = least(lengths.nums, nums.len());
-    let m = least(lengths.names, names.len());
-    let d = least(lengths.dirs, dirs.len());
+    let b = lengths.bytes.min(bytes.len());
+    let p = lengths.phys.min(phys.len());
+    let n = lengths.nums.min(nums.len());
+    let m = lengths.names.min(names.len());
+    let d = lengths.dirs.min(dirs.len());
     let mut buf = [0u8; 1];
     pool_numbers::on_numbers(
         &mut bytes[0..b],
@@ -206,10 +199,8 @@ fn records(bytes: &mut [u8]) {
 
 // Tries every input.
 fn attempts(bytes: &mut [u8], s: Setting) {
-    let mut k = 0;
-    while k < 37 {
+    for k in 0..37 {
         attempt(bytes, s, k);
-        k += 1;
     }
 }
 
@@ -256,19 +247,13 @@ fn attempt(bytes: &mut [u8], s: Setting, k: usize) {
 
 // The input of a number, with its name printed.
 fn odd_of(k: usize) -> Odd {
-    if k < 10 {
-        return counts(k);
+    match k {
+        0..10 => counts(k),
+        10..17 => parts(k),
+        17..26 => slot_rows(k),
+        26..30 => queue(k),
+        _ => dir_rows(k),
     }
-    if k < 17 {
-        return parts(k);
-    }
-    if k < 26 {
-        return slot_rows(k);
-    }
-    if k < 30 {
-        return queue(k);
-    }
-    dir_rows(k)
 }
 
 // Prints a name, and gives its input.
@@ -451,7 +436,7 @@ fn put_lent(s: Setting, spot: Spot, x: u64) -> Setting {
             r
         }
         Spot::RowsBoth => {
-            let n = least(x as usize, 67);
+            let n = (x as usize).min(67);
             let nums = n * 4;
             let names = n * 480;
             let mut r = s;
@@ -461,7 +446,7 @@ fn put_lent(s: Setting, spot: Spot, x: u64) -> Setting {
             r
         }
         Spot::DirRowsBoth => {
-            let n = least(x as usize, 257);
+            let n = (x as usize).min(257);
             let dirs = n * 482;
             let mut r = s;
             r.pool.chosen.dir_rows = n;
@@ -592,10 +577,8 @@ fn shapes(bytes: &mut [u8]) {
 // Makes every call, each on what the one before it left.
 fn calls(bytes: &mut [u8], start: Setting) {
     let mut s = start;
-    let mut k = 0;
-    while k < 16 {
+    for k in 0..16 {
         s = misshaped(bytes, s, k);
-        k += 1;
     }
 }
 
@@ -614,18 +597,11 @@ fn misshaped(bytes: &mut [u8], s: Setting, k: usize) -> Setting {
 
 // Prints what a call answers on each wrong shape.
 fn on_shapes(bytes: &mut [u8], s: Setting, call: Call, path: &[u8]) {
-    let mut j = 0;
-    while j < 8 {
-        on_shape(bytes, s, j, call, path);
-        j += 1;
+    for j in 0..8 {
+        let bad = ask(bytes, shaped(s, j), call, path);
+        say(b" ");
+        number(bad.number);
     }
-}
-
-// Prints what a call answers on one of them.
-fn on_shape(bytes: &mut [u8], s: Setting, j: usize, call: Call, path: &[u8]) {
-    let bad = ask(bytes, shaped(s, j), call, path);
-    say(b" ");
-    number(bad.number);
 }
 
 // The setting with the device of a wrong shape.

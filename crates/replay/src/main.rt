@@ -3,91 +3,59 @@
 // many scripts there were. What it prints can't be said in a contract, and is compared with the file stdout.
 #![tactic(auto)]
 
+ghost use Rattle.std.specs.Prelude.{◌≤◌, length, IfSome};
+
 // Standard input's and standard output's numbers at the C library.
 const STDIN_FILENO: i32 = 0;
 
 const STDOUT_FILENO: i32 = 1;
 
-// How many entries were replayed, how many of them differ, and whether there may be more.
+// How many entries were replayed, and how many of them differ.
 #[derive(Clone, Copy)]
 struct Tally {
     scripts: u64,
     differ: u64,
-    more: bool,
-}
-
-// How many bytes of a buffer are a run of the input, and whether there was a whole one that fits.
-#[derive(Clone, Copy)]
-struct Run {
-    len: usize,
-    whole: bool,
 }
 
 fn main() {
     let tally = replay_all();
-    let scripts = tally.scripts;
-    let differ = tally.differ;
-    io::print_decimal(STDOUT_FILENO, scripts);
+    io::print_decimal(STDOUT_FILENO, tally.scripts);
     io::write_all(STDOUT_FILENO, b" scripts replayed, ");
-    io::print_decimal(STDOUT_FILENO, differ);
+    io::print_decimal(STDOUT_FILENO, tally.differ);
     io::write_all(STDOUT_FILENO, b" differ\n");
 }
 
-// A proved loop has to end, and nothing says that the input does: so it counts its turns down, from a number that no run uses up.
+// A proved loop has to end, and nothing says that the input does: so it takes as many turns at most as no run uses up.
 fn replay_all() -> Tally {
     let mut tally = Tally {
         scripts: 0,
         differ: 0,
-        more: true,
     };
-    let mut turns = 1_000_000_000u64;
-    let mut more = true;
-    while turns > 0 && more {
-        tally = replay(tally);
-        more = tally.more;
-        turns -= 1;
+    for _ in 0..1_000_000_000u64 {
+        let Some(next) = replay(tally) else {
+            break;
+        };
+        tally = next;
     }
     tally
 }
 
 // The tally with the next entry in it, if there is one.
-fn replay(tally: Tally) -> Tally {
+fn replay(tally: Tally) -> Option<Tally> {
     let mut script = io::large_buffer();
     let mut recorded = io::large_buffer();
     let mut out = io::large_buffer();
-    let asked = read_run(&mut script);
-    let answered = read_run(&mut recorded);
-    let mut next = tally;
-    next.more = answered.whole;
-    if answered.whole {
-        let number = tally.scripts;
-        let n = run_script(&script, asked.len, &mut out);
-        next.scripts = std::num::wrapping_add_u64(number, 1);
-        if !same(&out, n, &recorded, answered.len) {
-            let differ = tally.differ;
-            next.differ = std::num::wrapping_add_u64(differ, 1);
-            tell(number, n, answered.len);
-        }
+    let n = read_run(&mut script)?;
+    let m = read_run(&mut recorded)?;
+    let len = script::pool_script(&script[..n], &mut out);
+    let same = len <= out.len() && out[..len] == recorded[..m];
+    if !same {
+        tell(tally.scripts, len, m);
     }
-    next
-}
-
-// Runs the script in the first n bytes.
-fn run_script(script: &[u8], n: usize, out: &mut [u8]) -> usize {
-    if n <= script.len() {
-        return script::pool_script(&script[..n], out);
-    }
-    0
-}
-
-// Whether the first n bytes of one buffer are the first m of another.
-fn same(out: &[u8], n: usize, recorded: &[u8], m: usize) -> bool {
-    if n <= out.len() {
-        if m <= recorded.len() {
-            return path::same_bytes(&out[..n], &recorded[..m]);
-        }
-    }
-    false
+    Some(Tally {
+        scripts: tally.scripts.wrapping_add(1),
+        differ: tally.differ.wrapping_add(u64::from(!same)),
+    })
 }
 
 // Prints that a script came out otherwise.
@@ -101,22 +69,18 @@ fn tell(number: u64, n: usize, m: usize) {
     io::write_all(STDOUT_FILENO, b", or others\n");
 }
 
-// Reads a u32 and that many bytes into the front of a buffer.
-fn read_run(into: &mut [u8]) -> Run {
+// Reads a u32 and that many bytes into the front of a buffer, and gives how many, if the run is whole and fits.
+fn read_run(into: &mut [u8]) -> Option<usize>
+    ensures { IfSome result (λ n. n ≤ length into.new) }
+{
     let mut four = [0u8; 4];
-    let got = io::read_full(STDIN_FILENO, &mut four);
+    if io::read_full(STDIN_FILENO, &mut four) < 4 {
+        return None;
+    }
     let len = le::get_at(&four, 0, 4) as usize;
-    if got == 4 {
-        if len <= into.len() {
-            let read = io::read_full(STDIN_FILENO, &mut into[..len]);
-            return Run {
-                len: len,
-                whole: read == len,
-            };
-        }
+    if into.len() < len {
+        return None;
     }
-    Run {
-        len: 0,
-        whole: false,
-    }
+    let read = io::read_full(STDIN_FILENO, &mut into[..len]);
+    (read == len).then_some(len)
 }

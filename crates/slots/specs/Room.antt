@@ -1,7 +1,7 @@
 -- No answer is longer than the room that is kept for it, 8,192 bytes: the longest are dumps, and one of four files and eight directories
 -- has at most 6,158 bytes.
-use Rattle.std.specs.Prelude.{ℕ, ◌+◌, ◌-◌, ◌*◌, ◌≤◌, ◌≡◌, refl, Bool, true, false, cond, List, [], ◌∷◌, ◌++◌, eqb, length}
-use Rattle.std.proofs.Common.{ap, ◌∙◌, arith, length-append}
+use Rattle.std.specs.Prelude.{ℕ, ◌+◌, ◌-◌, ◌*◌, ◌≤◌, ◌≡◌, refl, Bool, true, false, cond, List, [], ◌∷◌, eqb, length}
+use Rattle.std.proofs.Common.{arith, length-append}
 use mathlib.Core.List.Memᴰ
 use Rattle.limits.specs.Limits.{max_path}
 use Rattle.lists.specs.Runs.{range, length_range}
@@ -12,8 +12,7 @@ use Rattle.slot_rows.specs.Rows.{Row, Short, at, is_bound, path_of, gen_of, len_
 use Rattle.slot_rows.proofs.InBuffers.{length_rows}
 use Rattle.dir_rows.proofs.InBuffer.{length_dirs}
 use Rattle.pool_state.specs.State.{State, Valid, Bufs, view, IsPool}
-use Rattle.pool_state.specs.InBuffers.{queue_few}
-use Rattle.pool_state.specs.Reads.{Reads, pool_reads}
+use Rattle.pool_state.specs.Reads.{pool_reads}
 use Rattle.pool_test.specs.Test.{is_pool}
 use Rattle.pool_test.proofs.Exactly.{pool_exactly}
 use Rattle.pool_steps.specs.World.{Lent}
@@ -23,7 +22,7 @@ use Rattle.calls_gate.specs.Replies.{Came}
 use Rattle.calls_gate.specs.Table.{opening}
 use Rattle.row_order.specs.Spans.{file_before, path_before, in_order}
 use Rattle.line_words.specs.Commands.{Request, create, sync, remove, move, dump, what, request_of}
-use Rattle.line_answers.specs.Answers.{spaced, no_text, ok_text, made_text, end_text, open_text}
+use Rattle.line_answers.specs.Answers.{no_text, ok_text, made_text, end_text, open_text}
 use Rattle.line_answers.proofs.Digits.{spaced_few}
 use Rattle.line_dump.specs.Dump.{path_end, bit_of, file_numbers, file_line, dir_line, free_line, files_of}
 use Rattle.line_dump.specs.Dump.{files_text, dirs_text, dump_text, dump_answer}

@@ -111,7 +111,7 @@ fn serve(
 }
 
 // Reads and answers block by block, and then the line that no line feed ends. A proved loop has to end, and nothing says that the input
-// does: so it counts its turns down, from a number that no run uses up.
+// does: so it takes as many turns at most as no run uses up. A read that fails counts as the end of the input.
 fn answer_all(
     bytes: &mut [u8],
     phys: &mut [u64],
@@ -128,26 +128,14 @@ fn answer_all(
 {
     let mut from = stdin;
     let mut r = run;
-    let mut turns = u64::MAX;
-    while 0 < turns {
-        let n = read_some(&mut from, input);
+    for _ in 0..u64::MAX {
+        let n = from.read(input).unwrap_or(0);
         if n == 0 {
             break;
         }
         r = answer_block(bytes, phys, nums, names, dirs, r, line, &input[..n], out);
-        turns -= 1;
     }
     answer_last(bytes, phys, nums, names, dirs, r, line, out);
-}
-
-// Reads what there is, as far as the block reaches, and gives how many bytes that is. A read that fails counts as the end of the input.
-fn read_some(from: &mut Stdin, input: &mut [u8]) -> usize
-    ensures { result ≤ length input.new }
-{
-    match from.read(input) {
-        Ok(n) => n,
-        Err(_) => 0,
-    }
 }
 
 // Answers the lines that end in a block, holds the one that does not, and writes the answers.
@@ -226,15 +214,9 @@ fn append(line: &mut [u8], held: usize, part: &[u8]) -> usize
     ensures kept { take result line.new ≡ extended line.old held part.now }
     ensures within { result ≤ length line.new }
 {
-    let n = least(line.len() - held, part.len());
+    let n = (line.len() - held).min(part.len());
     line[held..held + n].copy_from_slice(&part[..n]);
     held + n
-}
-
-fn least(a: usize, b: usize) -> usize
-    ensures { result ≡ min a b }
-{
-    if a <= b { a } else { b }
 }
 
 // Answers the line that is held. Of four slot rows and eight directory rows, and with a buffer that has room for an answer, the answer is
@@ -298,7 +280,7 @@ fn reach(out: &[u8], start: usize, len: usize) -> usize
     requires { start ≤ length out.now }
     ensures { result ≡ start + min len (length out.now - start) }
 {
-    start + least(len, out.len() - start)
+    start + len.min(out.len() - start)
 }
 
 // Answers the line that no line feed ends, if there is one, and writes the answer.

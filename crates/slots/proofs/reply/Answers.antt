@@ -1,11 +1,10 @@
 -- The line that is held lies in the buffer. The answer is short enough for the room that was made (`answers_fit`), so it lies there whole:
 -- `uncut`.
 use Prim.Native.Nat.{ℕ}
-use mathlib.Core.Path.{refl, sym, ap}
+use mathlib.Core.Path.{ap}
 use mathlib.Core.List.{List}
 use native.Mathlib.Omega.{arith}
 use lib.ListN.{take}
-use lib.Seq.{length-take-le}
 use Rattle.device.specs.Device.{dev}
 use Rattle.pool_state.specs.State.{Bufs, bufs}
 use Rattle.pool_steps.specs.World.{Lent, lent}
