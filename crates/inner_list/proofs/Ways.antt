@@ -4,24 +4,21 @@ use native.Mathlib.Omega.{arith}
 use native.Mathlib.Nat.{add-sub_cancel_left}
 use native.Mathlib.Numerals.{add-one}
 use mathlib.Core.Path.{◌≡◌, refl, sym, ap, ◌∙◌}
-use mathlib.Core.Bool.{true}
 use mathlib.Core.List.{List, [], ◌∷◌, ◌++◌, map, append_assoc}
 use lib.ListN.{length, get_or, set, take, drop, length-append, length-take, length-drop, length-set, drop_of_length-le}
 use lib.Seq.{sets, sets-eq, length-sets, drop-cons}
 use Rattle.std.proofs.Common.{sum}
 use Rattle.std.proofs.lemmas.Grind.{common_steps}
-use Rattle.limits.specs.Limits.{max_path, dir_width}
 use Rattle.lists.specs.Blocks.{cat, sets_append}
 use Rattle.lists.specs.Runs.{range}
 use Rattle.lists.specs.Sort.{keep, sort, length_sort}
 use Rattle.le.specs.Le.{le, laid}
 use Rattle.path.specs.Path.{is_parent}
-use Rattle.slot_rows.specs.Rows.{at, is_bound, path_of, rows_of, Flat}
-use Rattle.slot_rows.proofs.InBuffers.{length_rows, name_part}
-use Rattle.dir_rows.specs.Rows.{dir_at, dirs_of}
-use Rattle.dir_rows.proofs.InBuffer.{length_dirs, dir_part}
+use Rattle.slot_rows.specs.Rows.{at, rows_of}
+use Rattle.slot_rows.proofs.InBuffers.{length_rows}
+use Rattle.dir_rows.specs.Rows.{dirs_of}
+use Rattle.dir_rows.proofs.InBuffer.{length_dirs}
 use Rattle.row_order.specs.Spans.{spelled, SpanInside, AllInside, span_before, file_span, dir_span}
-use Rattle.row_order.specs.Picks.{row_spells}
 use Rattle.row_order.specs.InOrder.{inside_get, inside_sort}
 use Rattle.inner_list.specs.Listing.{is_child, entry}
 use Rattle.inner_list.specs.Parts.{child_files, child_dirs, entries, size_of}

@@ -1,5 +1,5 @@
 -- The same over parts of the lent rows, as the code has them: which are picked, how many bytes their entries take, and these entries.
-use Rattle.std.specs.Prelude.{◌≡◌, ℕ, ◌<◌, ◌+◌, ◌%◌, List, [], ◌∷◌, map, length, get_or}
+use Rattle.std.specs.Prelude.{ℕ, ◌+◌, ◌%◌, List, [], ◌∷◌, map, length, get_or}
 use Rattle.lists.specs.Blocks.{cat}
 use Rattle.lists.specs.Runs.{range}
 use Rattle.lists.specs.Sort.{keep}

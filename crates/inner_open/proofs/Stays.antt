@@ -1,20 +1,20 @@
 -- "A pool stays a pool": what the calls by path leave of a pool with its device.
-use Prim.Native.Nat.{ℕ, ◌+◌, ◌^◌, ◌≤◌, ◌<◌}
+use Prim.Native.Nat.{ℕ, ◌+◌, ◌≤◌, ◌<◌}
 use native.Mathlib.Omega.{arith}
-use mathlib.Core.Path.{◌≡◌, refl, sym, ap, ◌∙◌}
+use mathlib.Core.Path.{◌≡◌, refl, sym, ◌∙◌}
 use mathlib.Core.Logic.{◌≢◌}
 use mathlib.Core.Bool.{Bool, true, false, cond, false≢true}
 use mathlib.Core.List.{List}
 use lib.Dec.{eqb, ltb}
-use lib.ListN.{length, get_or, set, length-set}
+use lib.ListN.{length, get_or, length-set}
 use borrow.Author.Tests.{ltb-true, ltb-false, eqb-true, eqb-false}
 use Rattle.limits.specs.Limits.{max_path, last_counter}
 use Rattle.lists.specs.Distinct.{In}
 use Rattle.text.specs.Text.{is_text}
-use Rattle.path.specs.Path.{components, same_path, normal, ancestors}
+use Rattle.path.specs.Path.{ancestors}
 use Rattle.path.proofs.Theorems.{same_path_lem, normal_short}
 use Rattle.device.specs.declared.Geometry.{Geometry}
-use Rattle.device.specs.Device.{Dev, data_truncate_m}
+use Rattle.device.specs.Device.{data_truncate_m}
 use Rattle.device.specs.AnyDevice.{truncate}
 use Rattle.slot_rows.specs.Rows.{File, file, bound, at, is_bound, path_of, gen_of, holds, find}
 use Rattle.slot_rows.proofs.Finding.{find_holds, find_none, holds_bound, holds_path}
@@ -25,7 +25,7 @@ use Rattle.pool_state.specs.State.{State, Valid}
 use Rattle.pool_state.specs.Queue.{queued, unqueued, spent}
 use Rattle.pool_state.specs.InBuffers.{first_in, first_gone, queued_valid, unqueued_valid, spent_valid}
 use Rattle.pool_state.specs.Changes.{with_row, with_dirs, Admits, with_row_valid, with_dirs_valid}
-use Rattle.pool_steps.specs.World.{World, world, Fit}
+use Rattle.pool_steps.specs.World.{World, Fit}
 use Rattle.pool_steps.specs.Steps.{fine_m, release_m}
 use Rattle.pool_steps.proofs.Stays.{Kept, call_kept, release_fit}
 use Rattle.pool_steps.specs.Outcome.{outcome, None, by_device}

@@ -1,17 +1,16 @@
 -- The ways out of the calls by path, over plain values: each takes the callees' contracts and gives the equation of one exit.
-use Prim.Native.Nat.{ℕ, ◌+◌, ◌-◌, ◌*◌, ◌^◌, ◌≤◌, ◌<◌}
+use Prim.Native.Nat.{ℕ, ◌+◌, ◌-◌, ◌*◌, ◌≤◌, ◌<◌}
 use native.Mathlib.Omega.{arith}
-use mathlib.Core.Path.{◌≡◌, refl, sym, ap, ap₂, subst, ◌∙◌}
-use mathlib.Core.Bool.{Bool, true, false, cond, false≢true}
+use mathlib.Core.Path.{◌≡◌, sym, ap, ap₂, subst, ◌∙◌}
+use mathlib.Core.Bool.{Bool, true, false, false≢true}
 use mathlib.Core.List.{List}
 use lib.Dec.{eqb, ltb}
-use lib.ListN.{length, get_or, set, drop, length-set, length-drop}
+use lib.ListN.{length, get_or, set, length-set, length-drop}
 use borrow.Author.Tests.{eq-eqb, ne_eqb, lt-ltb, le-ltb}
 use Rattle.limits.specs.Limits.{max_path, dir_width, last_counter}
 use Rattle.lists.specs.Distinct.{In}
 use Rattle.path.specs.Path.{normal, ancestors}
 use Rattle.path.proofs.Theorems.{normal_short}
-use Rattle.device.specs.declared.Place.{Place}
 use Rattle.device.specs.declared.Geometry.{Geometry}
 use Rattle.device.specs.Device.{Dev, dev, Shape, data_truncate_m}
 use Rattle.slot_rows.specs.Rows.{File, Row, file, bound, at, is_bound, gen_of, len_of, resized, find, rows_of, Flat}
@@ -26,14 +25,13 @@ use Rattle.pool_state.specs.declared.Popped.{Popped}
 use Rattle.pool_state.specs.State.{State, Valid, Bufs, bufs, view, pool_of, queue_of, flat, IsPool}
 use Rattle.pool_state.specs.Queue.{queued, unqueued, spent, pushed, popped, ticked}
 use Rattle.pool_state.proofs.Pops.{pop_pool, pop_flat}
-use Rattle.pool_state.specs.InBuffers.{is_pool_lem, pool_canon, pool_rows, pool_dirs, together, queue_fits, spend_flat, push_flat, first_in, unqueued_valid, spent_valid}
+use Rattle.pool_state.specs.InBuffers.{is_pool_lem, pool_canon, together, queue_fits, spend_flat, push_flat, first_in, unqueued_valid, spent_valid}
 use Rattle.pool_state.specs.Changes.{with_row, with_dirs, row_flat}
-use Rattle.pool_steps.specs.World.{World, world, Lent, lent, view_w, flat_w, Ready}
+use Rattle.pool_steps.specs.World.{Lent, lent, view_w, flat_w, Ready}
 use Rattle.pool_steps.specs.Steps.{fine_m, release_m}
-use Rattle.pool_steps.specs.Outcome.{Outcome, outcome, flat_o, None, by_device}
+use Rattle.pool_steps.specs.Outcome.{Outcome, outcome, flat_o}
 use Rattle.inner_handle.specs.Handles.{resized_m}
 use Rattle.inner_handle.proofs.Stays.{stays}
-use Rattle.inner_open.specs.declared.Reader.{Reader}
 use Rattle.inner_open.specs.declared.Writer.{Writer}
 use Rattle.inner_open.specs.Files.{room_for, registers, binds, open_read_m, Handle, handle, no_handle, reopen_m, created, create_m, admits_new, open_new_m, open_write_m, remove_m}
 use Rattle.inner_open.proofs.Stays.{room_made}

@@ -1,8 +1,8 @@
 -- The calls by path: open_read, and 01's "Open for writing" and "Remove", with their refusals in 01's order.
-use Rattle.std.specs.Prelude.{ℕ, ◌+◌, ◌^◌, Bool, true, cond, List, eqb, ltb, length, get_or}
+use Rattle.std.specs.Prelude.{ℕ, ◌+◌, Bool, true, cond, List, eqb, ltb, length, get_or}
 use Rattle.limits.specs.Limits.{max_path, last_counter}
 use Rattle.device.specs.declared.Geometry.{Geometry}
-use Rattle.device.specs.Device.{Dev, data_truncate_m}
+use Rattle.device.specs.Device.{data_truncate_m}
 use Rattle.slot_rows.specs.Rows.{File, file, bound, at, gen_of, len_of, find}
 use Rattle.dir_rows.specs.Dirs.{registered}
 use Rattle.pool_state.specs.State.{State}

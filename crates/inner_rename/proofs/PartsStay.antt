@@ -1,5 +1,5 @@
 -- What the parts of a rename leave of a pool with its device.
-use Prim.Native.Nat.{ℕ, ◌+◌, ◌^◌, ◌≤◌, ◌<◌}
+use Prim.Native.Nat.{ℕ, ◌+◌, ◌≤◌, ◌<◌}
 use native.Mathlib.Omega.{arith}
 use native.Mathlib.Decide.{ℕ_discrete}
 use mathlib.Core.Path.{◌≡◌, refl, sym, ap, ◌∙◌}
@@ -7,7 +7,7 @@ use mathlib.Core.Logic.{◌≢◌}
 use mathlib.Core.Bool.{Bool, true, false, cond}
 use mathlib.Core.List.{List}
 use lib.Dec.{ltb}
-use lib.ListN.{length, set, length-set}
+use lib.ListN.{length, length-set}
 use borrow.Author.Tests.{ltb-true, ltb-false}
 use Rattle.limits.specs.Limits.{last_counter}
 use Rattle.lists.specs.Distinct.{In}
@@ -20,7 +20,7 @@ use Rattle.pool_state.specs.State.{State, Valid}
 use Rattle.pool_state.specs.Queue.{spent}
 use Rattle.pool_state.specs.InBuffers.{spent_valid}
 use Rattle.pool_state.specs.Changes.{with_row, with_row_valid, resized_admitted}
-use Rattle.pool_steps.specs.World.{World, world, Fit}
+use Rattle.pool_steps.specs.World.{World, Fit}
 use Rattle.pool_steps.specs.Steps.{fine_m, put_m, release_m}
 use Rattle.pool_steps.proofs.Stays.{put_kept, release_is, release_row, release_other, release_fit}
 use Rattle.inner_rename.specs.Rename.{rebind_m, vacated_m}

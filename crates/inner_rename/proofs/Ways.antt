@@ -1,5 +1,5 @@
 -- The ways out of a rename's steps, over plain values: each takes the callees' contracts and gives the equation of one exit.
-use Prim.Native.Nat.{ℕ, ◌^◌, ◌≤◌, ◌<◌}
+use Prim.Native.Nat.{ℕ, ◌≤◌, ◌<◌}
 use native.Mathlib.Omega.{arith}
 use mathlib.Core.Path.{◌≡◌, sym, ap, ap₂, subst, ◌∙◌}
 use mathlib.Core.Bool.{Bool, true, false, cond}
@@ -20,18 +20,18 @@ use Rattle.dir_rows.specs.Dirs.{registered}
 use Rattle.dir_rows.specs.Rows.{dirs_of}
 use Rattle.pool_state.specs.declared.Chosen.{Chosen}
 use Rattle.pool_state.specs.declared.Pool.{Pool}
-use Rattle.pool_state.specs.State.{State, Valid, Bufs, bufs, view, pool_of, queue_of, flat, IsPool}
-use Rattle.pool_state.specs.Queue.{spent, ticked}
+use Rattle.pool_state.specs.State.{State, Bufs, bufs, view, queue_of, flat, IsPool}
+use Rattle.pool_state.specs.Queue.{ticked}
 use Rattle.pool_state.specs.InBuffers.{pool_rows, spend_flat}
 use Rattle.pool_state.specs.Changes.{with_row, row_flat}
-use Rattle.pool_steps.specs.World.{World, world, Lent, lent, view_w, flat_w, Fit, Ready}
+use Rattle.pool_steps.specs.World.{World, Lent, lent, view_w, flat_w, Fit, Ready}
 use Rattle.pool_steps.specs.Steps.{fine_m, put_m, release_m}
 use Rattle.pool_steps.proofs.Stays.{world_is, ready_fit, lent_stays}
-use Rattle.pool_steps.specs.Outcome.{Outcome, outcome, flat_o, None, by_device}
+use Rattle.pool_steps.specs.Outcome.{Outcome, outcome, flat_o, None}
 use Rattle.inner_handle.proofs.Stays.{stays}
 use Rattle.inner_open.specs.Files.{room_for, registers, binds}
 use Rattle.inner_rename.specs.declared.Course.{Course}
-use Rattle.inner_rename.specs.Rename.{stopped, admitted, front_m, rebind_m, vacated_m, settled_m, renamed_m, rename_m}
+use Rattle.inner_rename.specs.Rename.{stopped, front_m, rebind_m, vacated_m, settled_m, renamed_m, rename_m}
 use Rattle.inner_rename.proofs.PartsStay.{MayGo, vacated_fit, Stays, vacated_stays, Rebound, rebound}
 use Rattle.inner_rename.proofs.Stays.{Goes, front_means, from_bound, room, left, rebound_fit, to_may_go}
 use Rattle.inner_rename.proofs.Stays as Keeps

@@ -1,5 +1,5 @@
 -- 01's "Rename": what comes before the device, the file's new header, and the holder of `to` that gives way.
-use Rattle.std.specs.Prelude.{ℕ, Bool, true, false, cond, List, eqb, ltb, length}
+use Rattle.std.specs.Prelude.{ℕ, true, false, cond, List, eqb, ltb, length}
 use Rattle.limits.specs.Limits.{max_path}
 use Rattle.path.specs.Path.{same_path}
 use Rattle.header.specs.Block.{bound_header, encoded}

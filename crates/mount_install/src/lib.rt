@@ -55,7 +55,13 @@ fn register_row(rows: &Rows, dirs: &mut [u8], dir_cap: usize, d: usize, i: usize
 
 // Registers the ancestors of the paths of the rows from n on, and gives how many directories there are then; where there is no room for
 // all, none is registered.
-pub fn register_claims(rows: &Rows, n: usize, dirs: &mut [u8], dir_cap: usize, d: usize) -> Option<usize>
+pub fn register_claims(
+    rows: &Rows,
+    n: usize,
+    dirs: &mut [u8],
+    dir_cap: usize,
+    d: usize,
+) -> Option<usize>
     requires { Lie rows.now × FlatDirs dir_cap d dirs.old × (n ≤ rows.now.n) }
     ensures told { result ≡ answered dir_cap (claimed (drop n (held rows.now)) (dirs_of dirs.old d)) }
     ensures dirs { dirs.new ≡ kept dir_cap (claimed (drop n (held rows.now)) (dirs_of dirs.old d)) dirs.old }

@@ -1,10 +1,10 @@
 -- The ways out of the steps, over plain values: each takes the callees' contracts and gives the equation of one exit.
-use Prim.Native.Nat.{ℕ, ◌+◌, ◌-◌, ◌*◌, ◌≤◌, ◌<◌}
+use Prim.Native.Nat.{ℕ, ◌≤◌, ◌<◌}
 use native.Mathlib.Omega.{arith}
 use mathlib.Core.Path.{◌≡◌, sym, ap, ap₂, ◌∙◌}
 use mathlib.Core.Bool.{Bool, true, false}
 use mathlib.Core.List.{List}
-use lib.ListN.{length, set, take, drop}
+use lib.ListN.{length, set}
 use borrow.Author.Tests.{eq-eqb, ne_eqb}
 use Rattle.limits.specs.Limits.{max_path}
 use Rattle.lists.specs.Distinct.{In}
@@ -15,7 +15,7 @@ use Rattle.device.specs.declared.Geometry.{Geometry}
 use Rattle.device.specs.Device.{Dev, dev, Shape, data_truncate_m}
 use Rattle.device_lent.proofs.Ways.{then_stopped, then_goes}
 use Rattle.slot_rows.specs.Rows.{Row, unbound, at, path_of, len_of, gen_of, cleaned, rows_of, Flat}
-use Rattle.slot_rows.proofs.InBuffers.{length_rows, name_part}
+use Rattle.slot_rows.proofs.InBuffers.{length_rows}
 use Rattle.pool_state.specs.declared.Pool.{Pool}
 use Rattle.pool_state.specs.State.{Bufs, bufs, queue_of, view, pool_of, flat}
 use Rattle.pool_state.specs.Queue.{spent, pushed, ticked}

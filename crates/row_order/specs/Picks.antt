@@ -21,7 +21,6 @@ use Rattle.row_order.specs.Spans.{span, spelled, SpanInside, AllInside, file_spa
 
 -- ---- a loop that picks
 
-
 -- What a closure answers below n, by its `post`, is g.
 abbrev pub Answers : {F A : Type 0} → (F → ℕ → A → Type 0) → F → ℕ → (ℕ → A) → Type 0
 Answers {F} {A} post c n g = (i : ℕ) (x : A) → i < n → post c i x → x ≡ g i

@@ -120,12 +120,7 @@ pub fn all_files(rows: &Rows, spans: &mut [u32]) -> usize
     requires { Lie rows.now × (rows.now.n ≤ 256) × (rows.now.n ≤ length spans.old) }
     ensures { (result ≡ length (file_spans (held rows.now))) × (spans.new ≡ sets spans.old 0 (file_spans (held rows.now))) }
 {
-    picked(
-        rows.n,
-        spans,
-        |i| rows.is_bound(i),
-        |i| file_span(rows, i),
-    )
+    picked(rows.n, spans, |i| rows.is_bound(i), |i| file_span(rows, i))
 }
 
 // Writes the spellings of all directories, by row, to the front of spans: there are m.

@@ -3,7 +3,6 @@ use mathlib.Core.Path.{sym, ◌∙◌, ap}
 use native.Mathlib.Omega.{arith}
 use Rattle.path.specs.Path.{same_path}
 use Rattle.dir_rows.specs.Rows.{dir_at}
-use Rattle.dir_rows.proofs.InBuffer.{dir_part}
 use Rattle.dir_rows.proofs.Walks.{has_start, has_hit, has_on, has_end}
 use Rattle.dir_rows.proofs.dir_find.Goals as goal
 
