@@ -45,7 +45,8 @@ fn next_name(s: &[u8], i: usize) -> Option<Part>
             if e != at + 1 {
                 return Some(Part { start: at, stop: e });
             }
-            if s[at] != b'.' {
+            let dot = s[at] == b'.';
+            if !dot {
                 return Some(Part { start: at, stop: e });
             }
             at = e;
@@ -265,7 +266,8 @@ fn compare_names(a: &[u8], more_a: bool, b: &[u8], more_b: bool) -> Ordering
         return Ordering::Greater;
     }
     if a.len() < b.len() {
-        if more_a && b[a.len()] <= b'/' {
+        let low = b[a.len()] <= b'/';
+        if more_a && low {
             return Ordering::Greater;
         }
         return Ordering::Less;

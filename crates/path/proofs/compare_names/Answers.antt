@@ -4,7 +4,7 @@ use Rattle.std.proofs.lemmas.Slice.Zip.{zip_turn, zip_end}
 use Rattle.lists.specs.Order.{nat_same}
 use Rattle.path.proofs.Orders.{names_both, b_over, a_over, both_over, numbers_apart}
 use Rattle.path.proofs.compare_names.Goals as goal
-use Rattle.path.proofs.compare_names.Goals.{else-more_b-via-then-more_b+else-a-b-lt47, else-more_b-via-else-more_b, else-more_a-via-then-more_a+else-b-a-le47, else-more_a-via-else-more_a}
+use Rattle.path.proofs.compare_names.Goals.{else-more_b-via-then-more_b+else-a-b-lt47, else-more_b-via-else-more_b, else-more_a-via-then-more_a+else-low, else-more_a-via-else-more_a}
 
 pub returns-then-x-y : goal.returns-then-x-y
 returns-then-x-y c =
@@ -40,12 +40,12 @@ returns-then-b-a c =
       | else-more_b-via-else-more_b w ↦ sym (o ∙ rw w.if-more_b.false)
     ]
 
-pub returns-then-b-a-le47 : goal.returns-then-b-a-le47
-returns-then-b-a-le47 c =
+pub returns-then-low : goal.returns-then-low
+returns-then-low c =
     let args = c.args in
     let l = c.loop-x in
     let k = zip_end args.a.now args.b.now l.yielded c.into_iter-x-iterator.result l.x-iterator c.next.new.self c.next.result (cc) (cc) l.yielded_by c.in-None.is c.next.ensures.steps in
-    sym (a_over args.more_a args.more_b args.a.now args.b.now _ k l.invariant c.if-a-b.true ∙ rw (c.if-more_a.true, le-ltb _ _ c.if-b-a-le47.true))
+    sym (a_over args.more_a args.more_b args.a.now args.b.now _ k l.invariant c.if-a-b.true ∙ rw (c.if-more_a.true, le-ltb _ _ c.if-low.true))
 
 pub returns-then-a-b : goal.returns-then-a-b
 returns-then-a-b c =
@@ -54,7 +54,7 @@ returns-then-a-b c =
     let k = zip_end args.a.now args.b.now l.yielded c.into_iter-x-iterator.result l.x-iterator c.next.new.self c.next.result (cc) (cc) l.yielded_by c.in-None.is c.next.ensures.steps in
     let o = a_over args.more_a args.more_b args.a.now args.b.now _ k l.invariant c.if-a-b.true in
     elim c.else-more_a.branch [
-      | else-more_a-via-then-more_a+else-b-a-le47 w ↦ sym (o ∙ rw (w.if-more_a.true, lt-ltb 47 (get_or args.b.now (length args.a.now) 0) (omega (arith, w.if-b-a-le47.false))))
+      | else-more_a-via-then-more_a+else-low w ↦ sym (o ∙ rw (w.if-more_a.true, lt-ltb 47 (get_or args.b.now (length args.a.now) 0) w.if-low.false))
       | else-more_a-via-else-more_a w ↦ sym (o ∙ rw w.if-more_a.false)
     ]
 

@@ -15,18 +15,18 @@ returns-then-e-at c =
     name_some s c.args.i c.loop-at.at p.result (omega arith) h (omega arith) c.loop-at.invariant.2
     p.ensures.ends (idle_long s c.loop-at.at p.result h (omega arith) c.if-e-at.true)
 
-pub returns-then-s-at-ne46 : goal.returns-then-s-at-ne46
-returns-then-s-at-ne46 c =
+pub returns-then-not-dot : goal.returns-then-not-dot
+returns-then-not-dot c =
     let p = c.part_end-e in
     let s = c.args.s.now in
     name_some s c.args.i c.loop-at.at p.result (omega arith) (omega arith) (omega arith) c.loop-at.invariant.2
-    p.ensures.ends (idle_byte s c.loop-at.at p.result (omega arith) c.if-e-at.false c.if-s-at-ne46.true)
+    p.ensures.ends (idle_byte s c.loop-at.at p.result (omega arith) c.if-e-at.false c.if-not-dot.true)
 
 pub loop-at-preserved : goal.loop-at-preserved
 loop-at-preserved c =
     let p = c.part_end-e in
     let s = c.args.s.now in
-    (omega arith, omega arith, c.loop-at.invariant.2 ∙ rest_dot s c.loop-at.at p.result (omega arith) p.ensures.ends c.if-e-at.false c.if-s-at-ne46.false)
+    (omega arith, omega arith, c.loop-at.invariant.2 ∙ rest_dot s c.loop-at.at p.result (omega arith) p.ensures.ends c.if-e-at.false c.if-not-dot.false)
 
 pub returns : goal.returns
 returns c =

@@ -1,10 +1,9 @@
 -- The invariant `Picking` of the part that is written, where every row is picked; `sets_part` puts the part back.
 use mathlib.Core.Path.{refl, ap, ◌∙◌}
-use mathlib.Core.List.{◌++◌}
 use native.Mathlib.Omega.{arith}
 use lib.ListN.{drop, length-take}
 use Prim.Native.Nat.{ℕ}
-use mathlib.Core.List.{List}
+use mathlib.Core.List.{List, ◌++◌}
 use Rattle.row_order.specs.AllDirs.{dirs_many}
 use Rattle.row_order.specs.Picks.{picking_yes, picking_end, dir_spans_lem}
 use Rattle.row_order.proofs.Turns.{sets_part}
