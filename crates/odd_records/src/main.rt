@@ -168,14 +168,6 @@ enum Spot {
     Misshaped,
 }
 
-// A spot, a number there with which the input is no pool, and one with which it is.
-#[derive(Clone, Copy)]
-struct Odd {
-    spot: Spot,
-    bad: u64,
-    good: u64,
-}
-
 // Five slots of 512 bytes, five slot rows and seven directory rows.
 fn five() -> Setting {
     let lengths = Lengths {
@@ -193,15 +185,12 @@ fn records(bytes: &mut [u8]) {
     let s = files(bytes, five());
     let s = parents(bytes, s);
     let s = folders(bytes, s);
-    attempts(bytes, s);
+    counts(bytes, &s);
+    parts(bytes, &s);
+    slot_rows(bytes, &s);
+    queue(bytes, &s);
+    dir_rows(bytes, &s);
     refused_mount(bytes, s);
-}
-
-// Tries every input.
-fn attempts(bytes: &mut [u8], s: Setting) {
-    for k in 0..37 {
-        attempt(bytes, s, k);
-    }
 }
 
 // The mount, and the two files.
@@ -232,140 +221,199 @@ fn folder(name: &[u8], bytes: &mut [u8], s: Setting, path: &[u8]) -> Setting {
     made(name, bytes, s, Call::CreateDirAll, path)
 }
 
-// Asks whether a/b exists, with the input of a number and with the one beside it.
-fn attempt(bytes: &mut [u8], s: Setting, k: usize) {
-    let odd = odd_of(k);
-    let spot = odd.spot;
-    let bad = ask(bytes, put(s, spot, odd.bad), Call::Exists, b"a/b");
-    let good = ask(bytes, put(s, spot, odd.good), Call::Exists, b"a/b");
+// Prints a name, and asks whether a/b exists: with a number at a spot with which the input is no pool, and with one with which it is.
+fn attempt(bytes: &mut [u8], s: &Setting, name: &[u8], spot: Spot, bad: u64, good: u64) {
+    let refused = ask(bytes, put(*s, spot, bad), Call::Exists, b"a/b");
+    let taken = ask(bytes, put(*s, spot, good), Call::Exists, b"a/b");
+    say(name);
     say(b": ");
-    number(bad.number);
+    number(refused.number);
     say(b", good ");
-    number(good.number);
+    number(taken.number);
     say(b"\n");
 }
 
-// The input of a number, with its name printed.
-fn odd_of(k: usize) -> Odd {
-    match k {
-        0..10 => counts(k),
-        10..17 => parts(k),
-        17..26 => slot_rows(k),
-        26..30 => queue(k),
-        _ => dir_rows(k),
-    }
-}
-
-// Prints a name, and gives its input.
-fn named(name: &[u8], spot: Spot, bad: u64, good: u64) -> Odd {
-    say(name);
-    Odd {
-        spot: spot,
-        bad: bad,
-        good: good,
-    }
-}
-
 // Counts above their limits, and the counter.
-fn counts(k: usize) -> Odd {
-    match k {
-        0 => named(b"65 slot rows", Spot::RowsBoth, 65, 64),
-        1 => named(
-            b"67 slot rows, which no records hold",
-            Spot::RowsBoth,
-            67,
-            64,
-        ),
-        2 => named(b"257 directory rows", Spot::DirRowsBoth, 257, 256),
-        3 => named(b"more slots held than slot rows", Spot::Held, 6, 5),
-        4 => named(
-            b"more directories held than directory rows",
-            Spot::Dirs,
-            8,
-            7,
-        ),
-        5 => named(b"a queue of 65", Spot::Free, 65, 2),
-        6 => named(b"counter 0, and no slot held", Spot::Blank, 0, 1),
-        7 => named(b"counter at a generation", Spot::Counter, 2, 3),
-        8 => named(
-            b"counter above 2^63",
-            Spot::Counter,
-            9223372036854775809,
-            9223372036854775808,
-        ),
-        _ => named(b"counter 0, and slots of 513 bytes", Spot::Misshaped, 0, 3),
-    }
+fn counts(bytes: &mut [u8], s: &Setting) {
+    attempt(bytes, s, b"65 slot rows", Spot::RowsBoth, 65, 64);
+    attempt(
+        bytes,
+        s,
+        b"67 slot rows, which no records hold",
+        Spot::RowsBoth,
+        67,
+        64,
+    );
+    attempt(bytes, s, b"257 directory rows", Spot::DirRowsBoth, 257, 256);
+    attempt(
+        bytes,
+        s,
+        b"more slots held than slot rows",
+        Spot::Held,
+        6,
+        5,
+    );
+    attempt(
+        bytes,
+        s,
+        b"more directories held than directory rows",
+        Spot::Dirs,
+        8,
+        7,
+    );
+    attempt(bytes, s, b"a queue of 65", Spot::Free, 65, 2);
+    attempt(bytes, s, b"counter 0, and no slot held", Spot::Blank, 0, 1);
+    attempt(bytes, s, b"counter at a generation", Spot::Counter, 2, 3);
+    attempt(
+        bytes,
+        s,
+        b"counter above 2^63",
+        Spot::Counter,
+        9223372036854775809,
+        9223372036854775808,
+    );
+    attempt(
+        bytes,
+        s,
+        b"counter 0, and slots of 513 bytes",
+        Spot::Misshaped,
+        0,
+        3,
+    );
 }
 
 // Rows of another number than the record says.
-fn parts(k: usize) -> Odd {
-    match k {
-        10 => named(
-            b"more slot rows lent than the record says",
-            Spot::Rows,
-            4,
-            5,
-        ),
-        11 => named(b"fewer slot rows lent", Spot::Rows, 6, 5),
-        12 => named(b"more directory rows lent", Spot::DirRows, 6, 7),
-        13 => named(b"fewer directory rows lent", Spot::DirRows, 8, 7),
-        14 => named(b"a number too few lent", Spot::NumsLent, 19, 20),
-        15 => named(
-            b"a byte of the paths too few lent",
-            Spot::NamesLent,
-            2399,
-            2400,
-        ),
-        _ => named(
-            b"a byte of the directories too few lent",
-            Spot::DirsLent,
-            3373,
-            3374,
-        ),
-    }
+fn parts(bytes: &mut [u8], s: &Setting) {
+    attempt(
+        bytes,
+        s,
+        b"more slot rows lent than the record says",
+        Spot::Rows,
+        4,
+        5,
+    );
+    attempt(bytes, s, b"fewer slot rows lent", Spot::Rows, 6, 5);
+    attempt(bytes, s, b"more directory rows lent", Spot::DirRows, 6, 7);
+    attempt(bytes, s, b"fewer directory rows lent", Spot::DirRows, 8, 7);
+    attempt(bytes, s, b"a number too few lent", Spot::NumsLent, 19, 20);
+    attempt(
+        bytes,
+        s,
+        b"a byte of the paths too few lent",
+        Spot::NamesLent,
+        2399,
+        2400,
+    );
+    attempt(
+        bytes,
+        s,
+        b"a byte of the directories too few lent",
+        Spot::DirsLent,
+        3373,
+        3374,
+    );
 }
 
 // Slot rows: row 0 holds a/b, row 1 holds a//c, rows 2 and 3 are unbound, row 4 is past the count.
-fn slot_rows(k: usize) -> Odd {
-    match k {
-        17 => named(b"a number in a row past the count", Spot::Number(19), 1, 0),
-        18 => named(b"a path's byte past the count", Spot::Name(1920), 1, 0),
-        19 => named(b"mark 3", Spot::Number(0), 3, 1),
-        20 => named(b"a path of 481 bytes", Spot::Number(1), 481, 480),
-        21 => named(b"a byte behind a path", Spot::Name(3), 1, 0),
-        22 => named(b"an unbound slot with a length", Spot::Number(10), 1, 0),
-        23 => named(b"an unbound slot with a path", Spot::Number(9), 1, 0),
-        24 => named(b"a path that is no text", Spot::Name(0), 255, 97),
-        _ => named(b"a//b beside a/b", Spot::Name(483), 98, 99),
-    }
+fn slot_rows(bytes: &mut [u8], s: &Setting) {
+    attempt(
+        bytes,
+        s,
+        b"a number in a row past the count",
+        Spot::Number(19),
+        1,
+        0,
+    );
+    attempt(
+        bytes,
+        s,
+        b"a path's byte past the count",
+        Spot::Name(1920),
+        1,
+        0,
+    );
+    attempt(bytes, s, b"mark 3", Spot::Number(0), 3, 1);
+    attempt(bytes, s, b"a path of 481 bytes", Spot::Number(1), 481, 480);
+    attempt(bytes, s, b"a byte behind a path", Spot::Name(3), 1, 0);
+    attempt(
+        bytes,
+        s,
+        b"an unbound slot with a length",
+        Spot::Number(10),
+        1,
+        0,
+    );
+    attempt(
+        bytes,
+        s,
+        b"an unbound slot with a path",
+        Spot::Number(9),
+        1,
+        0,
+    );
+    attempt(bytes, s, b"a path that is no text", Spot::Name(0), 255, 97);
+    attempt(bytes, s, b"a//b beside a/b", Spot::Name(483), 98, 99);
 }
 
 // The queue: slots 2 and 3.
-fn queue(k: usize) -> Odd {
-    match k {
-        26 => named(b"a bound slot in the queue", Spot::Queue(0), 0, 2),
-        27 => named(b"a slot twice in the queue", Spot::Queue(1), 2, 3),
-        28 => named(b"a slot out of range in the queue", Spot::Queue(1), 4, 3),
-        _ => named(b"a cell behind the queue", Spot::Queue(2), 1, 0),
-    }
+fn queue(bytes: &mut [u8], s: &Setting) {
+    attempt(bytes, s, b"a bound slot in the queue", Spot::Queue(0), 0, 2);
+    attempt(bytes, s, b"a slot twice in the queue", Spot::Queue(1), 2, 3);
+    attempt(
+        bytes,
+        s,
+        b"a slot out of range in the queue",
+        Spot::Queue(1),
+        4,
+        3,
+    );
+    attempt(bytes, s, b"a cell behind the queue", Spot::Queue(2), 1, 0);
 }
 
 // Directory rows: a, de/f, de, a/m, k, gh, and one past the count.
-fn dir_rows(k: usize) -> Odd {
-    match k {
-        30 => named(
-            b"a byte in a directory row past the count",
-            Spot::Dir(2894),
-            1,
-            0,
-        ),
-        31 => named(b"directory g/", Spot::Dir(2413), 47, 104),
-        32 => named(b"directory a twice", Spot::Dir(1930), 97, 107),
-        33 => named(b"directory xe/f without xe", Spot::Dir(484), 120, 100),
-        34 => named(b"directory x/m without x", Spot::Dir(1448), 120, 97),
-        35 => named(b"a directory of 481 bytes", Spot::DirLength(1928), 481, 480),
-        _ => named(b"a byte behind a directory", Spot::Dir(1931), 1, 0),
-    }
+fn dir_rows(bytes: &mut [u8], s: &Setting) {
+    attempt(
+        bytes,
+        s,
+        b"a byte in a directory row past the count",
+        Spot::Dir(2894),
+        1,
+        0,
+    );
+    attempt(bytes, s, b"directory g/", Spot::Dir(2413), 47, 104);
+    attempt(bytes, s, b"directory a twice", Spot::Dir(1930), 97, 107);
+    attempt(
+        bytes,
+        s,
+        b"directory xe/f without xe",
+        Spot::Dir(484),
+        120,
+        100,
+    );
+    attempt(
+        bytes,
+        s,
+        b"directory x/m without x",
+        Spot::Dir(1448),
+        120,
+        97,
+    );
+    attempt(
+        bytes,
+        s,
+        b"a directory of 481 bytes",
+        Spot::DirLength(1928),
+        481,
+        480,
+    );
+    attempt(
+        bytes,
+        s,
+        b"a byte behind a directory",
+        Spot::Dir(1931),
+        1,
+        0,
+    );
 }
 
 // The setting with another number at a spot: for a cell.
