@@ -618,29 +618,41 @@ fn shapes(bytes: &mut [u8]) {
     say(
         b"slots of 511, of 513, of 0, of 1049088 bytes; a byte too few, a byte too many; a length above the size; no slot\n",
     );
-    let s = made(b"mount", bytes, one(), Call::Mount { slots: 1 }, b"");
-    calls(bytes, s);
+    let mut s = made(b"mount", bytes, one(), Call::Mount { slots: 1 }, b"");
+    calls(bytes, &mut s);
 }
 
-// Makes every call, each on what the one before it left.
-fn calls(bytes: &mut [u8], start: Setting) {
-    let mut s = start;
-    for k in 0..16 {
-        s = misshaped(bytes, s, k);
-    }
+// Makes every call, each on what the one before it left. The first run of bytes is the file's name, which a rename changes to g.
+fn calls(bytes: &mut [u8], s: &mut Setting) {
+    let how = calls_gate::keeping(true);
+    misshaped(bytes, s, b"open_write", Call::OpenWrite { how }, b"f");
+    misshaped(bytes, s, b"open_read", Call::OpenRead, b"f");
+    misshaped(bytes, s, b"write_at", Call::WriteAt { slot: 0, generation: 1, at: 0 }, b"f");
+    misshaped(bytes, s, b"read_at", Call::ReadAt { slot: 0, generation: 1, at: 0 }, b"f");
+    misshaped(bytes, s, b"set_len", Call::SetLen { slot: 0, generation: 1, len: 1 }, b"f");
+    misshaped(bytes, s, b"file_len", Call::FileLen { slot: 0, generation: 1 }, b"f");
+    misshaped(bytes, s, b"sync", Call::Sync { slot: 0, generation: 1 }, b"f");
+    misshaped(bytes, s, b"sync_dir", Call::SyncDir, b"f");
+    misshaped(bytes, s, b"create_dir_all", Call::CreateDirAll, b"f");
+    misshaped(bytes, s, b"read_dir", Call::ReadDir, b"f");
+    misshaped(bytes, s, b"exists", Call::Exists, b"f");
+    misshaped(bytes, s, b"metadata", Call::Metadata, b"f");
+    misshaped(bytes, s, b"rename", Call::Rename, b"f");
+    misshaped(bytes, s, b"remove_file", Call::RemoveFile, b"g");
+    misshaped(bytes, s, b"adopt", Call::Adopt { slots: 0 }, b"f");
+    misshaped(bytes, s, b"mount", Call::Mount { slots: 1 }, b"f");
 }
 
-// One call on each shape; gives what the last one left.
-fn misshaped(bytes: &mut [u8], s: Setting, k: usize) -> Setting {
-    let call = call_of(k);
-    let path = path_of(k);
+// One call on each shape, and then on the device as it should be; what that one left stays.
+fn misshaped(bytes: &mut [u8], s: &mut Setting, name: &[u8], call: Call, path: &[u8]) {
+    say(name);
     say(b":");
-    on_shapes(bytes, s, call, &path);
-    let good = ask(bytes, s, call, &path);
+    on_shapes(bytes, *s, call, path);
+    let good = ask(bytes, *s, call, path);
     say(b", good ");
     number(good.number);
     say(b"\n");
-    good.left
+    *s = good.left;
 }
 
 // Prints what a call answers on each wrong shape.
@@ -687,101 +699,6 @@ fn sized(s: Setting, size: usize) -> Setting {
     r.size = size;
     r.lengths.bytes = size;
     r
-}
-
-// What each call is given as its first run of bytes: the file's name, which a rename changes to g.
-fn path_of(k: usize) -> [u8; 1] {
-    if k == 13 { [103u8; 1] } else { [102u8; 1] }
-}
-
-// The call of a number, with its name printed.
-fn call_of(k: usize) -> Call {
-    match k {
-        0 => {
-            say(b"open_write");
-            Call::OpenWrite {
-                how: calls_gate::keeping(true),
-            }
-        }
-        1 => {
-            say(b"open_read");
-            Call::OpenRead
-        }
-        2 => {
-            say(b"write_at");
-            Call::WriteAt {
-                slot: 0,
-                generation: 1,
-                at: 0,
-            }
-        }
-        3 => {
-            say(b"read_at");
-            Call::ReadAt {
-                slot: 0,
-                generation: 1,
-                at: 0,
-            }
-        }
-        4 => {
-            say(b"set_len");
-            Call::SetLen {
-                slot: 0,
-                generation: 1,
-                len: 1,
-            }
-        }
-        5 => {
-            say(b"file_len");
-            Call::FileLen {
-                slot: 0,
-                generation: 1,
-            }
-        }
-        6 => {
-            say(b"sync");
-            Call::Sync {
-                slot: 0,
-                generation: 1,
-            }
-        }
-        7 => {
-            say(b"sync_dir");
-            Call::SyncDir
-        }
-        8 => {
-            say(b"create_dir_all");
-            Call::CreateDirAll
-        }
-        9 => {
-            say(b"read_dir");
-            Call::ReadDir
-        }
-        10 => {
-            say(b"exists");
-            Call::Exists
-        }
-        11 => {
-            say(b"metadata");
-            Call::Metadata
-        }
-        12 => {
-            say(b"rename");
-            Call::Rename
-        }
-        13 => {
-            say(b"remove_file");
-            Call::RemoveFile
-        }
-        14 => {
-            say(b"adopt");
-            Call::Adopt { slots: 0 }
-        }
-        _ => {
-            say(b"mount");
-            Call::Mount { slots: 1 }
-        }
-    }
 }
 
 // Prints a number.
