@@ -428,94 +428,43 @@ fn put(s: Setting, spot: Spot, x: u64) -> Setting {
     }
 }
 
-// The same for a number of the record.
+// The same for a number of the record, for how much is lent, and for a few numbers at once.
 fn put_record(s: Setting, spot: Spot, x: u64) -> Setting {
+    let mut r = s;
     match spot {
-        Spot::Held => {
-            let mut r = s;
-            r.pool.held = x as usize;
-            r
-        }
-        Spot::Dirs => {
-            let mut r = s;
-            r.pool.dirs = x as usize;
-            r
-        }
-        Spot::Free => {
-            let mut r = s;
-            r.pool.free = x as usize;
-            r
-        }
-        Spot::Counter => {
-            let mut r = s;
-            r.pool.counter = x;
-            r
-        }
-        Spot::Rows => {
-            let mut r = s;
-            r.pool.chosen.rows = x as usize;
-            r
-        }
-        Spot::DirRows => {
-            let mut r = s;
-            r.pool.chosen.dir_rows = x as usize;
-            r
-        }
-        _ => put_lent(s, spot, x),
-    }
-}
-
-// The same for how much is lent, and for a few numbers at once.
-fn put_lent(s: Setting, spot: Spot, x: u64) -> Setting {
-    match spot {
-        Spot::NumsLent => {
-            let mut r = s;
-            r.lengths.nums = x as usize;
-            r
-        }
-        Spot::NamesLent => {
-            let mut r = s;
-            r.lengths.names = x as usize;
-            r
-        }
-        Spot::DirsLent => {
-            let mut r = s;
-            r.lengths.dirs = x as usize;
-            r
-        }
+        Spot::Held => r.pool.held = x as usize,
+        Spot::Dirs => r.pool.dirs = x as usize,
+        Spot::Free => r.pool.free = x as usize,
+        Spot::Counter => r.pool.counter = x,
+        Spot::Rows => r.pool.chosen.rows = x as usize,
+        Spot::DirRows => r.pool.chosen.dir_rows = x as usize,
+        Spot::NumsLent => r.lengths.nums = x as usize,
+        Spot::NamesLent => r.lengths.names = x as usize,
+        Spot::DirsLent => r.lengths.dirs = x as usize,
         Spot::RowsBoth => {
             let n = (x as usize).min(67);
-            let nums = n * 4;
-            let names = n * 480;
-            let mut r = s;
             r.pool.chosen.rows = n;
-            r.lengths.nums = nums;
-            r.lengths.names = names;
-            r
+            r.lengths.nums = n * 4;
+            r.lengths.names = n * 480;
         }
         Spot::DirRowsBoth => {
             let n = (x as usize).min(257);
-            let dirs = n * 482;
-            let mut r = s;
             r.pool.chosen.dir_rows = n;
-            r.lengths.dirs = dirs;
-            r
+            r.lengths.dirs = n * 482;
         }
         Spot::Blank => {
-            let mut r = five();
+            r = five();
             r.pool.chosen.rows = 5;
             r.pool.chosen.dir_rows = 7;
             r.pool.counter = x;
-            r
         }
         _ => {
-            let mut r = s;
             r.size = 513;
             r.lengths.bytes = 2565;
             r.pool.counter = x;
-            r
         }
     }
+    r
 }
 
 // The setting with another number of the slot rows; the same for a byte of the paths, of the directories, for a directory's length, and
@@ -569,7 +518,7 @@ fn put_queue(s: Setting, i: usize, x: u64) -> Setting {
 fn refused_mount(bytes: &mut [u8], s: Setting) {
     let refused = ask(
         bytes,
-        put_lent(s, Spot::Misshaped, 3),
+        put_record(s, Spot::Misshaped, 3),
         Call::Mount { slots: 4 },
         b"",
     );
@@ -627,11 +576,59 @@ fn calls(bytes: &mut [u8], s: &mut Setting) {
     let how = calls_gate::keeping(true);
     misshaped(bytes, s, b"open_write", Call::OpenWrite { how }, b"f");
     misshaped(bytes, s, b"open_read", Call::OpenRead, b"f");
-    misshaped(bytes, s, b"write_at", Call::WriteAt { slot: 0, generation: 1, at: 0 }, b"f");
-    misshaped(bytes, s, b"read_at", Call::ReadAt { slot: 0, generation: 1, at: 0 }, b"f");
-    misshaped(bytes, s, b"set_len", Call::SetLen { slot: 0, generation: 1, len: 1 }, b"f");
-    misshaped(bytes, s, b"file_len", Call::FileLen { slot: 0, generation: 1 }, b"f");
-    misshaped(bytes, s, b"sync", Call::Sync { slot: 0, generation: 1 }, b"f");
+    misshaped(
+        bytes,
+        s,
+        b"write_at",
+        Call::WriteAt {
+            slot: 0,
+            generation: 1,
+            at: 0,
+        },
+        b"f",
+    );
+    misshaped(
+        bytes,
+        s,
+        b"read_at",
+        Call::ReadAt {
+            slot: 0,
+            generation: 1,
+            at: 0,
+        },
+        b"f",
+    );
+    misshaped(
+        bytes,
+        s,
+        b"set_len",
+        Call::SetLen {
+            slot: 0,
+            generation: 1,
+            len: 1,
+        },
+        b"f",
+    );
+    misshaped(
+        bytes,
+        s,
+        b"file_len",
+        Call::FileLen {
+            slot: 0,
+            generation: 1,
+        },
+        b"f",
+    );
+    misshaped(
+        bytes,
+        s,
+        b"sync",
+        Call::Sync {
+            slot: 0,
+            generation: 1,
+        },
+        b"f",
+    );
     misshaped(bytes, s, b"sync_dir", Call::SyncDir, b"f");
     misshaped(bytes, s, b"create_dir_all", Call::CreateDirAll, b"f");
     misshaped(bytes, s, b"read_dir", Call::ReadDir, b"f");
