@@ -416,22 +416,36 @@ fn dir_rows(bytes: &mut [u8], s: &Setting) {
     );
 }
 
-// The setting with another number at a spot: for a cell.
+// The setting with another number at a spot. An index past the end changes nothing.
 fn put(s: Setting, spot: Spot, x: u64) -> Setting {
-    match spot {
-        Spot::Number(i) => put_number(s, i, x),
-        Spot::Name(i) => put_name(s, i, x),
-        Spot::Dir(i) => put_dir(s, i, x),
-        Spot::DirLength(i) => put_dir_length(s, i, x),
-        Spot::Queue(i) => put_queue(s, i, x),
-        _ => put_record(s, spot, x),
-    }
-}
-
-// The same for a number of the record, for how much is lent, and for a few numbers at once.
-fn put_record(s: Setting, spot: Spot, x: u64) -> Setting {
     let mut r = s;
     match spot {
+        Spot::Number(i) => {
+            if i < r.nums.len() {
+                r.nums[i] = x;
+            }
+        }
+        Spot::Name(i) => {
+            if i < r.names.len() {
+                r.names[i] = (x % 256) as u8;
+            }
+        }
+        Spot::Dir(i) => {
+            if i < r.dirs.len() {
+                r.dirs[i] = (x % 256) as u8;
+            }
+        }
+        Spot::DirLength(i) => {
+            if i < r.dirs.len() - 1 {
+                r.dirs[i] = (x % 256) as u8;
+                r.dirs[i + 1] = (x / 256 % 256) as u8;
+            }
+        }
+        Spot::Queue(i) => {
+            if i < r.pool.queue.len() {
+                r.pool.queue[i] = (x % 256) as u8;
+            }
+        }
         Spot::Held => r.pool.held = x as usize,
         Spot::Dirs => r.pool.dirs = x as usize,
         Spot::Free => r.pool.free = x as usize,
@@ -467,58 +481,13 @@ fn put_record(s: Setting, spot: Spot, x: u64) -> Setting {
     r
 }
 
-// The setting with another number of the slot rows; the same for a byte of the paths, of the directories, for a directory's length, and
-// for a cell of the queue. An index past the end changes nothing.
-fn put_number(s: Setting, i: usize, x: u64) -> Setting {
-    let mut r = s;
-    if i < 268 {
-        r.nums[i] = x;
-    }
-    r
-}
-
-fn put_name(s: Setting, i: usize, x: u64) -> Setting {
-    let mut r = s;
-    if i < 32160 {
-        r.names[i] = (x % 256) as u8;
-    }
-    r
-}
-
-fn put_dir(s: Setting, i: usize, x: u64) -> Setting {
-    let mut r = s;
-    if i < 123874 {
-        r.dirs[i] = (x % 256) as u8;
-    }
-    r
-}
-
-fn put_dir_length(s: Setting, i: usize, x: u64) -> Setting {
-    let mut r = s;
-    if i < 123873 {
-        r.dirs[i] = (x % 256) as u8;
-        r.dirs[i + 1] = (x / 256 % 256) as u8;
-    }
-    r
-}
-
-fn put_queue(s: Setting, i: usize, x: u64) -> Setting {
-    let mut r = s;
-    let mut pool = r.pool;
-    if i < 64 {
-        pool.queue[i] = (x % 256) as u8;
-    }
-    r.pool = pool;
-    r
-}
-
 // ---- a refused mount
 
 // A mount that is refused takes the pool that is there: record and rows are zero after it.
 fn refused_mount(bytes: &mut [u8], s: Setting) {
     let refused = ask(
         bytes,
-        put_record(s, Spot::Misshaped, 3),
+        put(s, Spot::Misshaped, 3),
         Call::Mount { slots: 4 },
         b"",
     );
