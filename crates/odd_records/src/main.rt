@@ -168,14 +168,6 @@ enum Spot {
     Misshaped,
 }
 
-// A spot, a number there with which the input is no pool, and one with which it is.
-#[derive(Clone, Copy)]
-struct Odd {
-    spot: Spot,
-    bad: u64,
-    good: u64,
-}
-
 // Five slots of 512 bytes, five slot rows and seven directory rows.
 fn five() -> Setting {
     let lengths = Lengths {
@@ -193,15 +185,12 @@ fn records(bytes: &mut [u8]) {
     let s = files(bytes, five());
     let s = parents(bytes, s);
     let s = folders(bytes, s);
-    attempts(bytes, s);
+    counts(bytes, &s);
+    parts(bytes, &s);
+    slot_rows(bytes, &s);
+    queue(bytes, &s);
+    dir_rows(bytes, &s);
     refused_mount(bytes, s);
-}
-
-// Tries every input.
-fn attempts(bytes: &mut [u8], s: Setting) {
-    for k in 0..37 {
-        attempt(bytes, s, k);
-    }
 }
 
 // The mount, and the two files.
@@ -232,286 +221,263 @@ fn folder(name: &[u8], bytes: &mut [u8], s: Setting, path: &[u8]) -> Setting {
     made(name, bytes, s, Call::CreateDirAll, path)
 }
 
-// Asks whether a/b exists, with the input of a number and with the one beside it.
-fn attempt(bytes: &mut [u8], s: Setting, k: usize) {
-    let odd = odd_of(k);
-    let spot = odd.spot;
-    let bad = ask(bytes, put(s, spot, odd.bad), Call::Exists, b"a/b");
-    let good = ask(bytes, put(s, spot, odd.good), Call::Exists, b"a/b");
+// Prints a name, and asks whether a/b exists: with a number at a spot with which the input is no pool, and with one with which it is.
+fn attempt(bytes: &mut [u8], s: &Setting, name: &[u8], spot: Spot, bad: u64, good: u64) {
+    let refused = ask(bytes, put(*s, spot, bad), Call::Exists, b"a/b");
+    let taken = ask(bytes, put(*s, spot, good), Call::Exists, b"a/b");
+    say(name);
     say(b": ");
-    number(bad.number);
+    number(refused.number);
     say(b", good ");
-    number(good.number);
+    number(taken.number);
     say(b"\n");
 }
 
-// The input of a number, with its name printed.
-fn odd_of(k: usize) -> Odd {
-    match k {
-        0..10 => counts(k),
-        10..17 => parts(k),
-        17..26 => slot_rows(k),
-        26..30 => queue(k),
-        _ => dir_rows(k),
-    }
-}
-
-// Prints a name, and gives its input.
-fn named(name: &[u8], spot: Spot, bad: u64, good: u64) -> Odd {
-    say(name);
-    Odd {
-        spot: spot,
-        bad: bad,
-        good: good,
-    }
-}
-
 // Counts above their limits, and the counter.
-fn counts(k: usize) -> Odd {
-    match k {
-        0 => named(b"65 slot rows", Spot::RowsBoth, 65, 64),
-        1 => named(
-            b"67 slot rows, which no records hold",
-            Spot::RowsBoth,
-            67,
-            64,
-        ),
-        2 => named(b"257 directory rows", Spot::DirRowsBoth, 257, 256),
-        3 => named(b"more slots held than slot rows", Spot::Held, 6, 5),
-        4 => named(
-            b"more directories held than directory rows",
-            Spot::Dirs,
-            8,
-            7,
-        ),
-        5 => named(b"a queue of 65", Spot::Free, 65, 2),
-        6 => named(b"counter 0, and no slot held", Spot::Blank, 0, 1),
-        7 => named(b"counter at a generation", Spot::Counter, 2, 3),
-        8 => named(
-            b"counter above 2^63",
-            Spot::Counter,
-            9223372036854775809,
-            9223372036854775808,
-        ),
-        _ => named(b"counter 0, and slots of 513 bytes", Spot::Misshaped, 0, 3),
-    }
+fn counts(bytes: &mut [u8], s: &Setting) {
+    attempt(bytes, s, b"65 slot rows", Spot::RowsBoth, 65, 64);
+    attempt(
+        bytes,
+        s,
+        b"67 slot rows, which no records hold",
+        Spot::RowsBoth,
+        67,
+        64,
+    );
+    attempt(bytes, s, b"257 directory rows", Spot::DirRowsBoth, 257, 256);
+    attempt(
+        bytes,
+        s,
+        b"more slots held than slot rows",
+        Spot::Held,
+        6,
+        5,
+    );
+    attempt(
+        bytes,
+        s,
+        b"more directories held than directory rows",
+        Spot::Dirs,
+        8,
+        7,
+    );
+    attempt(bytes, s, b"a queue of 65", Spot::Free, 65, 2);
+    attempt(bytes, s, b"counter 0, and no slot held", Spot::Blank, 0, 1);
+    attempt(bytes, s, b"counter at a generation", Spot::Counter, 2, 3);
+    attempt(
+        bytes,
+        s,
+        b"counter above 2^63",
+        Spot::Counter,
+        9223372036854775809,
+        9223372036854775808,
+    );
+    attempt(
+        bytes,
+        s,
+        b"counter 0, and slots of 513 bytes",
+        Spot::Misshaped,
+        0,
+        3,
+    );
 }
 
 // Rows of another number than the record says.
-fn parts(k: usize) -> Odd {
-    match k {
-        10 => named(
-            b"more slot rows lent than the record says",
-            Spot::Rows,
-            4,
-            5,
-        ),
-        11 => named(b"fewer slot rows lent", Spot::Rows, 6, 5),
-        12 => named(b"more directory rows lent", Spot::DirRows, 6, 7),
-        13 => named(b"fewer directory rows lent", Spot::DirRows, 8, 7),
-        14 => named(b"a number too few lent", Spot::NumsLent, 19, 20),
-        15 => named(
-            b"a byte of the paths too few lent",
-            Spot::NamesLent,
-            2399,
-            2400,
-        ),
-        _ => named(
-            b"a byte of the directories too few lent",
-            Spot::DirsLent,
-            3373,
-            3374,
-        ),
-    }
+fn parts(bytes: &mut [u8], s: &Setting) {
+    attempt(
+        bytes,
+        s,
+        b"more slot rows lent than the record says",
+        Spot::Rows,
+        4,
+        5,
+    );
+    attempt(bytes, s, b"fewer slot rows lent", Spot::Rows, 6, 5);
+    attempt(bytes, s, b"more directory rows lent", Spot::DirRows, 6, 7);
+    attempt(bytes, s, b"fewer directory rows lent", Spot::DirRows, 8, 7);
+    attempt(bytes, s, b"a number too few lent", Spot::NumsLent, 19, 20);
+    attempt(
+        bytes,
+        s,
+        b"a byte of the paths too few lent",
+        Spot::NamesLent,
+        2399,
+        2400,
+    );
+    attempt(
+        bytes,
+        s,
+        b"a byte of the directories too few lent",
+        Spot::DirsLent,
+        3373,
+        3374,
+    );
 }
 
 // Slot rows: row 0 holds a/b, row 1 holds a//c, rows 2 and 3 are unbound, row 4 is past the count.
-fn slot_rows(k: usize) -> Odd {
-    match k {
-        17 => named(b"a number in a row past the count", Spot::Number(19), 1, 0),
-        18 => named(b"a path's byte past the count", Spot::Name(1920), 1, 0),
-        19 => named(b"mark 3", Spot::Number(0), 3, 1),
-        20 => named(b"a path of 481 bytes", Spot::Number(1), 481, 480),
-        21 => named(b"a byte behind a path", Spot::Name(3), 1, 0),
-        22 => named(b"an unbound slot with a length", Spot::Number(10), 1, 0),
-        23 => named(b"an unbound slot with a path", Spot::Number(9), 1, 0),
-        24 => named(b"a path that is no text", Spot::Name(0), 255, 97),
-        _ => named(b"a//b beside a/b", Spot::Name(483), 98, 99),
-    }
+fn slot_rows(bytes: &mut [u8], s: &Setting) {
+    attempt(
+        bytes,
+        s,
+        b"a number in a row past the count",
+        Spot::Number(19),
+        1,
+        0,
+    );
+    attempt(
+        bytes,
+        s,
+        b"a path's byte past the count",
+        Spot::Name(1920),
+        1,
+        0,
+    );
+    attempt(bytes, s, b"mark 3", Spot::Number(0), 3, 1);
+    attempt(bytes, s, b"a path of 481 bytes", Spot::Number(1), 481, 480);
+    attempt(bytes, s, b"a byte behind a path", Spot::Name(3), 1, 0);
+    attempt(
+        bytes,
+        s,
+        b"an unbound slot with a length",
+        Spot::Number(10),
+        1,
+        0,
+    );
+    attempt(
+        bytes,
+        s,
+        b"an unbound slot with a path",
+        Spot::Number(9),
+        1,
+        0,
+    );
+    attempt(bytes, s, b"a path that is no text", Spot::Name(0), 255, 97);
+    attempt(bytes, s, b"a//b beside a/b", Spot::Name(483), 98, 99);
 }
 
 // The queue: slots 2 and 3.
-fn queue(k: usize) -> Odd {
-    match k {
-        26 => named(b"a bound slot in the queue", Spot::Queue(0), 0, 2),
-        27 => named(b"a slot twice in the queue", Spot::Queue(1), 2, 3),
-        28 => named(b"a slot out of range in the queue", Spot::Queue(1), 4, 3),
-        _ => named(b"a cell behind the queue", Spot::Queue(2), 1, 0),
-    }
+fn queue(bytes: &mut [u8], s: &Setting) {
+    attempt(bytes, s, b"a bound slot in the queue", Spot::Queue(0), 0, 2);
+    attempt(bytes, s, b"a slot twice in the queue", Spot::Queue(1), 2, 3);
+    attempt(
+        bytes,
+        s,
+        b"a slot out of range in the queue",
+        Spot::Queue(1),
+        4,
+        3,
+    );
+    attempt(bytes, s, b"a cell behind the queue", Spot::Queue(2), 1, 0);
 }
 
 // Directory rows: a, de/f, de, a/m, k, gh, and one past the count.
-fn dir_rows(k: usize) -> Odd {
-    match k {
-        30 => named(
-            b"a byte in a directory row past the count",
-            Spot::Dir(2894),
-            1,
-            0,
-        ),
-        31 => named(b"directory g/", Spot::Dir(2413), 47, 104),
-        32 => named(b"directory a twice", Spot::Dir(1930), 97, 107),
-        33 => named(b"directory xe/f without xe", Spot::Dir(484), 120, 100),
-        34 => named(b"directory x/m without x", Spot::Dir(1448), 120, 97),
-        35 => named(b"a directory of 481 bytes", Spot::DirLength(1928), 481, 480),
-        _ => named(b"a byte behind a directory", Spot::Dir(1931), 1, 0),
-    }
+fn dir_rows(bytes: &mut [u8], s: &Setting) {
+    attempt(
+        bytes,
+        s,
+        b"a byte in a directory row past the count",
+        Spot::Dir(2894),
+        1,
+        0,
+    );
+    attempt(bytes, s, b"directory g/", Spot::Dir(2413), 47, 104);
+    attempt(bytes, s, b"directory a twice", Spot::Dir(1930), 97, 107);
+    attempt(
+        bytes,
+        s,
+        b"directory xe/f without xe",
+        Spot::Dir(484),
+        120,
+        100,
+    );
+    attempt(
+        bytes,
+        s,
+        b"directory x/m without x",
+        Spot::Dir(1448),
+        120,
+        97,
+    );
+    attempt(
+        bytes,
+        s,
+        b"a directory of 481 bytes",
+        Spot::DirLength(1928),
+        481,
+        480,
+    );
+    attempt(
+        bytes,
+        s,
+        b"a byte behind a directory",
+        Spot::Dir(1931),
+        1,
+        0,
+    );
 }
 
-// The setting with another number at a spot: for a cell.
+// The setting with another number at a spot. An index past the end changes nothing.
 fn put(s: Setting, spot: Spot, x: u64) -> Setting {
+    let mut r = s;
     match spot {
-        Spot::Number(i) => put_number(s, i, x),
-        Spot::Name(i) => put_name(s, i, x),
-        Spot::Dir(i) => put_dir(s, i, x),
-        Spot::DirLength(i) => put_dir_length(s, i, x),
-        Spot::Queue(i) => put_queue(s, i, x),
-        _ => put_record(s, spot, x),
-    }
-}
-
-// The same for a number of the record.
-fn put_record(s: Setting, spot: Spot, x: u64) -> Setting {
-    match spot {
-        Spot::Held => {
-            let mut r = s;
-            r.pool.held = x as usize;
-            r
+        Spot::Number(i) => {
+            if i < r.nums.len() {
+                r.nums[i] = x;
+            }
         }
-        Spot::Dirs => {
-            let mut r = s;
-            r.pool.dirs = x as usize;
-            r
+        Spot::Name(i) => {
+            if i < r.names.len() {
+                r.names[i] = (x % 256) as u8;
+            }
         }
-        Spot::Free => {
-            let mut r = s;
-            r.pool.free = x as usize;
-            r
+        Spot::Dir(i) => {
+            if i < r.dirs.len() {
+                r.dirs[i] = (x % 256) as u8;
+            }
         }
-        Spot::Counter => {
-            let mut r = s;
-            r.pool.counter = x;
-            r
+        Spot::DirLength(i) => {
+            if i < r.dirs.len() - 1 {
+                r.dirs[i] = (x % 256) as u8;
+                r.dirs[i + 1] = (x / 256 % 256) as u8;
+            }
         }
-        Spot::Rows => {
-            let mut r = s;
-            r.pool.chosen.rows = x as usize;
-            r
+        Spot::Queue(i) => {
+            if i < r.pool.queue.len() {
+                r.pool.queue[i] = (x % 256) as u8;
+            }
         }
-        Spot::DirRows => {
-            let mut r = s;
-            r.pool.chosen.dir_rows = x as usize;
-            r
-        }
-        _ => put_lent(s, spot, x),
-    }
-}
-
-// The same for how much is lent, and for a few numbers at once.
-fn put_lent(s: Setting, spot: Spot, x: u64) -> Setting {
-    match spot {
-        Spot::NumsLent => {
-            let mut r = s;
-            r.lengths.nums = x as usize;
-            r
-        }
-        Spot::NamesLent => {
-            let mut r = s;
-            r.lengths.names = x as usize;
-            r
-        }
-        Spot::DirsLent => {
-            let mut r = s;
-            r.lengths.dirs = x as usize;
-            r
-        }
+        Spot::Held => r.pool.held = x as usize,
+        Spot::Dirs => r.pool.dirs = x as usize,
+        Spot::Free => r.pool.free = x as usize,
+        Spot::Counter => r.pool.counter = x,
+        Spot::Rows => r.pool.chosen.rows = x as usize,
+        Spot::DirRows => r.pool.chosen.dir_rows = x as usize,
+        Spot::NumsLent => r.lengths.nums = x as usize,
+        Spot::NamesLent => r.lengths.names = x as usize,
+        Spot::DirsLent => r.lengths.dirs = x as usize,
         Spot::RowsBoth => {
             let n = (x as usize).min(67);
-            let nums = n * 4;
-            let names = n * 480;
-            let mut r = s;
             r.pool.chosen.rows = n;
-            r.lengths.nums = nums;
-            r.lengths.names = names;
-            r
+            r.lengths.nums = n * 4;
+            r.lengths.names = n * 480;
         }
         Spot::DirRowsBoth => {
             let n = (x as usize).min(257);
-            let dirs = n * 482;
-            let mut r = s;
             r.pool.chosen.dir_rows = n;
-            r.lengths.dirs = dirs;
-            r
+            r.lengths.dirs = n * 482;
         }
         Spot::Blank => {
-            let mut r = five();
+            r = five();
             r.pool.chosen.rows = 5;
             r.pool.chosen.dir_rows = 7;
             r.pool.counter = x;
-            r
         }
         _ => {
-            let mut r = s;
             r.size = 513;
             r.lengths.bytes = 2565;
             r.pool.counter = x;
-            r
         }
     }
-}
-
-// The setting with another number of the slot rows; the same for a byte of the paths, of the directories, for a directory's length, and
-// for a cell of the queue. An index past the end changes nothing.
-fn put_number(s: Setting, i: usize, x: u64) -> Setting {
-    let mut r = s;
-    if i < 268 {
-        r.nums[i] = x;
-    }
-    r
-}
-
-fn put_name(s: Setting, i: usize, x: u64) -> Setting {
-    let mut r = s;
-    if i < 32160 {
-        r.names[i] = (x % 256) as u8;
-    }
-    r
-}
-
-fn put_dir(s: Setting, i: usize, x: u64) -> Setting {
-    let mut r = s;
-    if i < 123874 {
-        r.dirs[i] = (x % 256) as u8;
-    }
-    r
-}
-
-fn put_dir_length(s: Setting, i: usize, x: u64) -> Setting {
-    let mut r = s;
-    if i < 123873 {
-        r.dirs[i] = (x % 256) as u8;
-        r.dirs[i + 1] = (x / 256 % 256) as u8;
-    }
-    r
-}
-
-fn put_queue(s: Setting, i: usize, x: u64) -> Setting {
-    let mut r = s;
-    let mut pool = r.pool;
-    if i < 64 {
-        pool.queue[i] = (x % 256) as u8;
-    }
-    r.pool = pool;
     r
 }
 
@@ -521,7 +487,7 @@ fn put_queue(s: Setting, i: usize, x: u64) -> Setting {
 fn refused_mount(bytes: &mut [u8], s: Setting) {
     let refused = ask(
         bytes,
-        put_lent(s, Spot::Misshaped, 3),
+        put(s, Spot::Misshaped, 3),
         Call::Mount { slots: 4 },
         b"",
     );
@@ -570,29 +536,89 @@ fn shapes(bytes: &mut [u8]) {
     say(
         b"slots of 511, of 513, of 0, of 1049088 bytes; a byte too few, a byte too many; a length above the size; no slot\n",
     );
-    let s = made(b"mount", bytes, one(), Call::Mount { slots: 1 }, b"");
-    calls(bytes, s);
+    let mut s = made(b"mount", bytes, one(), Call::Mount { slots: 1 }, b"");
+    calls(bytes, &mut s);
 }
 
-// Makes every call, each on what the one before it left.
-fn calls(bytes: &mut [u8], start: Setting) {
-    let mut s = start;
-    for k in 0..16 {
-        s = misshaped(bytes, s, k);
-    }
+// Makes every call, each on what the one before it left. The first run of bytes is the file's name, which a rename changes to g.
+fn calls(bytes: &mut [u8], s: &mut Setting) {
+    let how = calls_gate::keeping(true);
+    misshaped(bytes, s, b"open_write", Call::OpenWrite { how }, b"f");
+    misshaped(bytes, s, b"open_read", Call::OpenRead, b"f");
+    misshaped(
+        bytes,
+        s,
+        b"write_at",
+        Call::WriteAt {
+            slot: 0,
+            generation: 1,
+            at: 0,
+        },
+        b"f",
+    );
+    misshaped(
+        bytes,
+        s,
+        b"read_at",
+        Call::ReadAt {
+            slot: 0,
+            generation: 1,
+            at: 0,
+        },
+        b"f",
+    );
+    misshaped(
+        bytes,
+        s,
+        b"set_len",
+        Call::SetLen {
+            slot: 0,
+            generation: 1,
+            len: 1,
+        },
+        b"f",
+    );
+    misshaped(
+        bytes,
+        s,
+        b"file_len",
+        Call::FileLen {
+            slot: 0,
+            generation: 1,
+        },
+        b"f",
+    );
+    misshaped(
+        bytes,
+        s,
+        b"sync",
+        Call::Sync {
+            slot: 0,
+            generation: 1,
+        },
+        b"f",
+    );
+    misshaped(bytes, s, b"sync_dir", Call::SyncDir, b"f");
+    misshaped(bytes, s, b"create_dir_all", Call::CreateDirAll, b"f");
+    misshaped(bytes, s, b"read_dir", Call::ReadDir, b"f");
+    misshaped(bytes, s, b"exists", Call::Exists, b"f");
+    misshaped(bytes, s, b"metadata", Call::Metadata, b"f");
+    misshaped(bytes, s, b"rename", Call::Rename, b"f");
+    misshaped(bytes, s, b"remove_file", Call::RemoveFile, b"g");
+    misshaped(bytes, s, b"adopt", Call::Adopt { slots: 0 }, b"f");
+    misshaped(bytes, s, b"mount", Call::Mount { slots: 1 }, b"f");
 }
 
-// One call on each shape; gives what the last one left.
-fn misshaped(bytes: &mut [u8], s: Setting, k: usize) -> Setting {
-    let call = call_of(k);
-    let path = path_of(k);
+// One call on each shape, and then on the device as it should be; what that one left stays.
+fn misshaped(bytes: &mut [u8], s: &mut Setting, name: &[u8], call: Call, path: &[u8]) {
+    say(name);
     say(b":");
-    on_shapes(bytes, s, call, &path);
-    let good = ask(bytes, s, call, &path);
+    on_shapes(bytes, *s, call, path);
+    let good = ask(bytes, *s, call, path);
     say(b", good ");
     number(good.number);
     say(b"\n");
-    good.left
+    *s = good.left;
 }
 
 // Prints what a call answers on each wrong shape.
@@ -639,101 +665,6 @@ fn sized(s: Setting, size: usize) -> Setting {
     r.size = size;
     r.lengths.bytes = size;
     r
-}
-
-// What each call is given as its first run of bytes: the file's name, which a rename changes to g.
-fn path_of(k: usize) -> [u8; 1] {
-    if k == 13 { [103u8; 1] } else { [102u8; 1] }
-}
-
-// The call of a number, with its name printed.
-fn call_of(k: usize) -> Call {
-    match k {
-        0 => {
-            say(b"open_write");
-            Call::OpenWrite {
-                how: calls_gate::keeping(true),
-            }
-        }
-        1 => {
-            say(b"open_read");
-            Call::OpenRead
-        }
-        2 => {
-            say(b"write_at");
-            Call::WriteAt {
-                slot: 0,
-                generation: 1,
-                at: 0,
-            }
-        }
-        3 => {
-            say(b"read_at");
-            Call::ReadAt {
-                slot: 0,
-                generation: 1,
-                at: 0,
-            }
-        }
-        4 => {
-            say(b"set_len");
-            Call::SetLen {
-                slot: 0,
-                generation: 1,
-                len: 1,
-            }
-        }
-        5 => {
-            say(b"file_len");
-            Call::FileLen {
-                slot: 0,
-                generation: 1,
-            }
-        }
-        6 => {
-            say(b"sync");
-            Call::Sync {
-                slot: 0,
-                generation: 1,
-            }
-        }
-        7 => {
-            say(b"sync_dir");
-            Call::SyncDir
-        }
-        8 => {
-            say(b"create_dir_all");
-            Call::CreateDirAll
-        }
-        9 => {
-            say(b"read_dir");
-            Call::ReadDir
-        }
-        10 => {
-            say(b"exists");
-            Call::Exists
-        }
-        11 => {
-            say(b"metadata");
-            Call::Metadata
-        }
-        12 => {
-            say(b"rename");
-            Call::Rename
-        }
-        13 => {
-            say(b"remove_file");
-            Call::RemoveFile
-        }
-        14 => {
-            say(b"adopt");
-            Call::Adopt { slots: 0 }
-        }
-        _ => {
-            say(b"mount");
-            Call::Mount { slots: 1 }
-        }
-    }
 }
 
 // Prints a number.
