@@ -4,10 +4,11 @@ use mathlib.Core.Path.{◌≡◌, refl, sym, ap, ◌∙◌, subst}
 use mathlib.Core.Logic.{◌⊎◌, inl, inr, ⊎_elim}
 use mathlib.Core.List.Memᴰ
 use mathlib.Core.List.{List, [], ◌∷◌}
-use mathlib.Core.Bool.{Bool, true, false, not, cond, false≢true}
+use mathlib.Core.Bool.{Bool, true, false, not, false≢true}
 use native.Mathlib.Omega.{arith}
 use native.Mathlib.Decide.{ℕ_discrete}
-use lib.Dec.{eqb, ltb}
+use lib.Dec.{ltb}
+use Rattle.std.proofs.lemmas.Bool.{cases_lt}
 use lib.ListN.{length, take, get_or}
 use lib.Seq.{length-take-le}
 use borrow.Author.Tests.{eqb-true, ltb-true, eq-eqb, ne_eqb, lt-ltb, not-true}
@@ -17,11 +18,11 @@ use Rattle.lists.specs.Distinct.{In, Distinct}
 use Rattle.lists.specs.Distinct.Distinct.{none, more}
 use Rattle.text.specs.Text.{is_text, walk_of}
 use Rattle.path.specs.Path.{components, same_path, normal, ancestors}
-use Rattle.path.proofs.Theorems.{same_path_lem, same_path_refl, same_normal}
+use Rattle.path.proofs.Theorems.{same_path_lem, same_normal}
 use Rattle.path.proofs.Ancestors.{ancestor_normal}
 use Rattle.slot_rows.specs.Rows.{Row, at, is_bound, path_of, gen_of, holds, find, rows_of}
 use Rattle.slot_rows.proofs.InBuffers.{length_rows}
-use Rattle.slot_rows.proofs.Finding.{holds_bound, holds_path, find_same, find_is}
+use Rattle.slot_rows.proofs.Finding.{holds_bound, holds_path, find_same}
 use Rattle.dir_rows.specs.Dirs.{Dirs, has_path}
 use Rattle.dir_rows.proofs.Joined.{in_has, has_one, has_in}
 use Rattle.dir_rows.proofs.Registering.{closed_by_parents}
@@ -31,6 +32,7 @@ use Rattle.pool_state.specs.State.{State, Valid, Bufs, queue_of, view, pool_of, 
 use Rattle.pool_state.specs.InBuffers.{pool_dirs}
 use Rattle.pool_state.specs.Reads.{pool_reads}
 use Rattle.pool_test.specs.Test.{sizes_ok, rest_ok, first_ok, row_ok, is_at, has_num, cell_ok, first_held, up_held, dir_ok, fits_ok, view_ok, is_pool, PoolExactly}
+use Rattle.pool_test.proofs.Filters.{first_of}
 use Rattle.pool_test.proofs.FlatForms.{both, and_of, below, sized, sized_tested, zero_part, fit_rows, row_tested, fit_dirs, dir_tested, fit_queue}
 
 -- ---- rows apart
@@ -53,12 +55,6 @@ past_text [] i h = refl
 past_text (r ∷ rs) zero h = absurd (omega arith)
 past_text (r ∷ rs) (suc i) h = past_text rs i (omega arith)
 
-split : (i n : ℕ) → (i < n) ⊎ (n ≤ i)
-split zero zero = inr (omega arith)
-split zero (suc n) = inl (omega arith)
-split (suc i) zero = inr (omega arith)
-split (suc i) (suc n) = ⊎_elim (λ h. inl (omega arith)) (λ h. inr (omega arith)) (split i n)
-
 module _ (c n : ℕ) (rs : List Row) (k : length rs ≡ n) (e : all_of (row_ok c rs) 0 n ≡ true) where
   row_says : (i : ℕ) → i < n → (gen_of (at rs i) < c) × (is_text (path_of (at rs i)) ≡ true) × (first_ok rs i ≡ true)
   unfolding row_ok
@@ -75,14 +71,13 @@ module _ (c n : ℕ) (rs : List Row) (k : length rs ≡ n) (e : all_of (row_ok c
   rows_apart i j b d h = sym (first i b) ∙ find_same (path_of (at rs i)) (path_of (at rs j)) rs ((same_path_lem (path_of (at rs i)) (path_of (at rs j))).1 h) ∙ first j d
 
   rows_young : 1 ≤ c → (i : ℕ) → gen_of (at rs i) < c
-  rows_young b i = ⊎_elim (λ h. (row_says i h).0) (λ h. past_young rs i c b (omega arith)) (split i n)
+  rows_young b i = ⊎_elim (λ h. (row_says i h).0) (λ h. past_young rs i c b (omega arith)) (cases_lt i n)
 
   rows_text : (i : ℕ) → is_text (path_of (at rs i)) ≡ true
-  rows_text i = ⊎_elim (λ h. (row_says i h).1) (λ h. past_text rs i (omega arith)) (split i n)
+  rows_text i = ⊎_elim (λ h. (row_says i h).1) (λ h. past_text rs i (omega arith)) (cases_lt i n)
 
 first_tested : (s : State) → Valid s → (i : ℕ) → first_ok s.rows i ≡ true
-unfolding first_ok
-first_tested s ok i = go (is_bound (at s.rows i)) refl
+first_tested s ok i = first_of s.rows i (λ b j h. own b j h _ refl)
   where
     own : is_bound (at s.rows i) ≡ true → (j : ℕ) → j < i → (t : Bool) → holds (path_of (at s.rows i)) (at s.rows j) ≡ t → t ≡ false
     own b j h false e = refl
@@ -90,11 +85,6 @@ first_tested s ok i = go (is_bound (at s.rows i)) refl
         let d = holds_bound (path_of (at s.rows i)) (at s.rows j) e in
         let q : same_path (path_of (at s.rows j)) (path_of (at s.rows i)) ≡ true = sym (holds_path (path_of (at s.rows i)) (at s.rows j) d) ∙ e in
         absurd (omega (arith, ok.slots.apart i j b d (sym ((same_path_lem _ _).0 q))))
-
-    go : (t : Bool) → is_bound (at s.rows i) ≡ t → cond t (eqb (find (path_of (at s.rows i)) s.rows) i) true ≡ true
-    go false b = refl
-    go true b =
-        eq-eqb _ _ (find_is (path_of (at s.rows i)) s.rows i (holds_path (path_of (at s.rows i)) (at s.rows i) b ∙ same_path_refl (path_of (at s.rows i))) (λ j h. own b j h _ refl))
 
 row_passes : (s : State) → Valid s → (i : ℕ) → row_ok s.counter s.rows i ≡ true
 unfolding row_ok
@@ -243,26 +233,32 @@ module _ (b : List ℕ) (m : ℕ) (e : all_of (dir_ok b m) 0 m ≡ true) where
   directories_of : Dirs (dirs_of b m)
   directories_of = record { normals = normals; once = once; closed = closed_by_parents (dirs_of b m) nearest }
 
+-- a normal directory is none of those before it that are normal and other bytes
+pub fresh : (b : List ℕ) (j : ℕ) → ((i : ℕ) → i ≤ j → normal (dir_at b i) ≡ dir_at b i) → ((i : ℕ) → i < j → dir_at b i ≡ dir_at b j → ⊥)
+    → has_path (dirs_of b j) (dir_at b j) ≡ false
+unfolding dirs_of
+fresh b j n d = go _ refl
+  where
+    go : (t : Bool) → has_path (tab (dir_at b) 0 j) (dir_at b j) ≡ t → t ≡ false
+    go false u = refl
+    go true u =
+        let r = has_one (tab (dir_at b) 0 j) (dir_at b j) u in
+        let s = in_dirs b 0 j r.0 r.1 in
+        absurd (d s.0 (omega (arith, s.2)) (sym (n s.0 (omega (arith, s.2))) ∙ (same_normal (dir_at b s.0) (dir_at b j)).1 (ap components s.3 ∙ r.2) ∙ n j (omega arith)))
+
 dir_passes : (b : List ℕ) (m j : ℕ) → Dirs (dirs_of b m) → j < m → dir_ok b m j ≡ true
 unfolding dir_ok dirs_of first_held
 dir_passes b m j D h =
-    let i : In (dir_at b j) (dirs_of b m) = dirs_in_lem b 0 m j (omega arith) (omega arith) in
-    let n : normal (dir_at b j) ≡ dir_at b j = D.normals (dir_at b j) i in
-    and_of _ _ (ap (λ (x : List ℕ). same_bytes x (dir_at b j)) n ∙ same_bytes_refl (dir_at b j))
-    (and_of _ _ (ap not (fresh n _ refl)) (up (ancestors (dir_at b j)) (λ a k. in_has (dirs_of b m) a a (D.closed (dir_at b j) a i k) refl)))
+    and_of _ _ (ap (λ (x : List ℕ). same_bytes x (dir_at b j)) (D.normals (dir_at b j) (inside j (omega arith))) ∙ same_bytes_refl (dir_at b j))
+    (and_of _ _ (ap not (fresh b j (λ i l. D.normals (dir_at b i) (inside i l)) (λ i l. once_tab b 0 m D.once i j (omega arith) l (omega arith))))
+    (up (ancestors (dir_at b j)) (λ a k. in_has (dirs_of b m) a a (D.closed (dir_at b j) a (inside j (omega arith)) k) refl)))
   where
+    inside : (i : ℕ) → i ≤ j → In (dir_at b i) (tab (dir_at b) 0 m)
+    inside i l = dirs_in_lem b 0 m i (omega arith) (omega arith)
+
     up : (xs : List (List ℕ)) → ((a : List ℕ) → In a xs → has_path (dirs_of b m) a ≡ true) → first_held (dirs_of b m) xs ≡ true
     up [] f = refl
     up (a ∷ xs) f = f a (Memᴰ.head refl)
-
-    fresh : normal (dir_at b j) ≡ dir_at b j → (t : Bool) → has_path (tab (dir_at b) 0 j) (dir_at b j) ≡ t → t ≡ false
-    fresh n false u = refl
-    fresh n true u =
-        let r = has_one (tab (dir_at b) 0 j) (dir_at b j) u in
-        let s = in_dirs b 0 j r.0 r.1 in
-        let k : In (dir_at b s.0) (dirs_of b m) = dirs_in_lem b 0 m s.0 (omega arith) (omega (arith, s.2)) in
-        let q : dir_at b s.0 ≡ dir_at b j = sym (D.normals (dir_at b s.0) k) ∙ (same_normal (dir_at b s.0) (dir_at b j)).1 (ap components s.3 ∙ r.2) ∙ n in
-        absurd (once_tab b 0 m D.once s.0 j (omega arith) (omega (arith, s.2)) (omega arith) q)
 
 -- ---- the whole
 
