@@ -6,6 +6,7 @@ use mathlib.Core.Bool.{Bool, true, false, cond, ◌&&◌}
 use native.Mathlib.Omega.{arith}
 use native.Mathlib.Nat.{add-zero, add-sub_cancel_left}
 use lib.Dec.{eqb, leb}
+use Rattle.std.proofs.lemmas.Bool.Decides.{nat_tests}
 use lib.ListN.{length, take, drop, get_or, replicate, length-drop, length-take, take-append-drop, get_or-eq_default}
 use lib.Seq.{length-take-le, take_all, drop-drop, get_or-drop}
 use borrow.Author.Tests.{leb-true, eqb-true, eq-eqb, le-leb}
@@ -37,37 +38,23 @@ below f n j e h = all_at f 0 n j e (omega arith) (omega arith)
 pub sized : (q : Pool) (l n d : ℕ) → sizes_ok q l n d ≡ true → Sized q l n d
 unfolding sizes_ok
 sized q l n d e =
-    let e1 = both (leb q.chosen.rows 64) _ e in
-    let e2 = both (leb q.chosen.dir_rows 256) _ e1.1 in
-    let e3 = both (leb q.held q.chosen.rows) _ e2.1 in
-    let e4 = both (leb q.dirs q.chosen.dir_rows) _ e3.1 in
-    let e5 = both (leb q.free 64) _ e4.1 in
-    let e6 = both (leb 1 q.counter) _ e5.1 in
-    let e7 = both (leb q.counter last_counter) _ e6.1 in
-    let e8 = both (eqb l (q.chosen.rows * row_width)) _ e7.1 in
-    let e9 = both (eqb n (q.chosen.rows * max_path)) _ e8.1 in
-    let e10 = both (eqb d (q.chosen.dir_rows * dir_width)) _ e9.1 in
     record {
-      rows = leb-true _ _ e1.0;
-      dir_rows_lem = leb-true _ _ e2.0;
-      held = leb-true _ _ e3.0;
-      dirs = leb-true _ _ e4.0;
-      free = leb-true _ _ e5.0;
-      begun = leb-true _ _ e6.0;
-      counted = leb-true _ _ e7.0;
-      nums_long = eqb-true _ _ e8.0;
-      names_long = eqb-true _ _ e9.0;
-      dirs_long = eqb-true _ _ e10.0;
-      queue_long = eqb-true _ _ e10.1;
+      rows = grind (arith, nat_tests, e);
+      dir_rows_lem = grind (arith, nat_tests, e);
+      held = grind (arith, nat_tests, e);
+      dirs = grind (arith, nat_tests, e);
+      free = grind (arith, nat_tests, e);
+      begun = grind (arith, nat_tests, e);
+      counted = grind (arith, nat_tests, e);
+      nums_long = grind (arith, nat_tests, e);
+      names_long = grind (arith, nat_tests, e);
+      dirs_long = grind (arith, nat_tests, e);
+      queue_long = grind (arith, nat_tests, e);
     }
 
 pub sized_tested : (b : Bufs) → Reads b → sizes_ok b.pool (length b.nums) (length b.names) (length b.dirs) ≡ true
 unfolding sizes_ok
-sized_tested b R =
-    and_of _ _ (le-leb _ _ R.rows) (and_of _ _ (le-leb _ _ R.dir_rows_lem) (and_of _ _ (le-leb _ _ R.held) (and_of _ _ (le-leb _ _ R.dirs)
-    (and_of _ _ (le-leb b.pool.free 64 (omega (arith, R.free, R.held, R.rows)))
-    (and_of _ _ (le-leb _ _ R.begun) (and_of _ _ (le-leb _ _ R.counted)
-    (and_of _ _ (eq-eqb _ _ R.nums_long) (and_of _ _ (eq-eqb _ _ R.names_long) (and_of _ _ (eq-eqb _ _ R.dirs_long) (eq-eqb _ _ R.queue_long))))))))))
+sized_tested b R = grind (arith, nat_tests)
 
 -- ---- zeros
 
@@ -168,17 +155,11 @@ rows_back (suc n) l s a b f =
 
 bare_of : (m k n : ℕ) → bare_ok m k n ≡ true → m ≡ 0 → (k ≡ 0) × (n ≡ 0)
 unfolding bare_ok
-bare_of m k n e z =
-    let y = both (eqb k 0) _ (rw (eq-eqb _ _ z) at e) in
-    (eqb-true _ _ y.0, eqb-true _ _ y.1)
+bare_of m k n e z = (grind (arith, nat_tests), grind (arith, nat_tests))
 
 bare_tested : (m k n : ℕ) → (m ≡ 0 → (k ≡ 0) × (n ≡ 0)) → bare_ok m k n ≡ true
 unfolding bare_ok
-bare_tested m k n h = go (eqb m 0) refl
-  where
-    go : (t : Bool) → eqb m 0 ≡ t → cond t (eqb k 0 && eqb n 0) true ≡ true
-    go true e = let y = h (eqb-true m 0 e) in and_of _ _ (eq-eqb _ _ y.0) (eq-eqb _ _ y.1)
-    go false e = refl
+bare_tested m k n h = grind (arith, nat_tests)
 
 -- the test of row j, on the lists from row j on
 fit_of : (l s : List ℕ) (j : ℕ) → j * max_path + max_path ≤ length s → row_fits l s j ≡ true → Fit (drop (j * row_width) l) (drop (j * max_path) s)
