@@ -7,11 +7,11 @@ use mathlib.Core.List.{List, [], ◌∷◌}
 use mathlib.Core.Bool.{Bool, true, false, not, false≢true}
 use native.Mathlib.Omega.{arith}
 use native.Mathlib.Decide.{ℕ_discrete}
-use lib.Dec.{ltb}
 use Rattle.std.proofs.lemmas.Bool.{cases_lt}
+use Rattle.std.proofs.lemmas.Bool.Decides.{nat_tests}
 use lib.ListN.{length, take, get_or}
 use lib.Seq.{length-take-le}
-use borrow.Author.Tests.{eqb-true, ltb-true, eq-eqb, ne_eqb, lt-ltb, not-true}
+use borrow.Author.Tests.{eqb-true, eq-eqb, ne_eqb, lt-ltb}
 use Rattle.lists.specs.Runs.{all_of, tab, all_intro, any_not, any_none}
 use Rattle.lists.specs.Same.{same_bytes, same_bytes_refl, same_bytes_eq}
 use Rattle.lists.specs.Distinct.{In, Distinct}
@@ -59,9 +59,8 @@ module _ (c n : ℕ) (rs : List Row) (k : length rs ≡ n) (e : all_of (row_ok c
   row_says : (i : ℕ) → i < n → (gen_of (at rs i) < c) × (is_text (path_of (at rs i)) ≡ true) × (first_ok rs i ≡ true)
   unfolding row_ok
   row_says i h =
-      let t = both (ltb (gen_of (at rs i)) c) _ (below (row_ok c rs) n i e h) in
-      let u = both (is_text (path_of (at rs i))) _ t.1 in
-      (ltb-true _ _ t.0, u.0, u.1)
+      let t = below (row_ok c rs) n i e h in
+      (grind (arith, nat_tests), grind (arith, nat_tests), grind (arith, nat_tests))
 
   first : (i : ℕ) → is_bound (at rs i) ≡ true → find (path_of (at rs i)) rs ≡ i
   unfolding first_ok
@@ -132,10 +131,7 @@ once_take (y ∷ q) (suc n) (more f d) w (suc j) (suc k) a b e = once_take q n d
 cell_says : (rs : List Row) (q : List ℕ) (k : ℕ) → cell_ok rs q k ≡ true
     → (get_or q k 0 < length rs) × (is_bound (at rs (get_or q k 0)) ≡ false) × (has_num q k (get_or q k 0) ≡ false)
 unfolding cell_ok
-cell_says rs q k e =
-    let e1 = both (ltb (get_or q k 0) (length rs)) _ e in
-    let e2 = both (not (is_bound (at rs (get_or q k 0)))) _ e1.1 in
-    (ltb-true _ _ e1.0, not-true _ e2.0, not-true _ e2.1)
+cell_says rs q k e = (grind (arith, nat_tests), grind (arith, nat_tests), grind (arith, nat_tests))
 
 module _ (rs : List Row) (q : List ℕ) (n : ℕ) (e : all_of (cell_ok rs q) 0 n ≡ true) where
   cell : (k : ℕ) → k < n → (get_or q k 0 < length rs) × (is_bound (at rs (get_or q k 0)) ≡ false) × (has_num q k (get_or q k 0) ≡ false)
@@ -200,10 +196,7 @@ once_tab b i (suc k) (more f d) j t p q h e = go (ℕ_discrete i j) (once_tab b 
 pub dir_says : (b : List ℕ) (m j : ℕ) → dir_ok b m j ≡ true
     → (normal (dir_at b j) ≡ dir_at b j) × (has_path (dirs_of b j) (dir_at b j) ≡ false) × (up_held (dirs_of b m) (dir_at b j) ≡ true)
 unfolding dir_ok
-dir_says b m j e =
-    let e1 = both (same_bytes (normal (dir_at b j)) (dir_at b j)) _ e in
-    let e2 = both (not (has_path (dirs_of b j) (dir_at b j))) _ e1.1 in
-    (same_bytes_eq _ _ e1.0, not-true _ e2.0, e2.1)
+dir_says b m j e = (same_bytes_eq _ _ (grind (arith, nat_tests)), grind (arith, nat_tests), grind (arith, nat_tests))
 
 up_says : (ds xs : List (List ℕ)) (a : List ℕ) (t : List (List ℕ)) → first_held ds xs ≡ true → xs ≡ a ∷ t → has_path ds a ≡ true
 unfolding first_held
@@ -274,7 +267,7 @@ is_pool_of b e =
     let v1 = both (all_of (row_ok q.counter rs) 0 q.held) _ e3.1 in
     let v2 = both (all_of (cell_ok rs q.queue) 0 q.free) _ v1.1 in
     let S = sized q (length b.nums) (length b.names) (length b.dirs) e1.0 in
-    let F = fit_rows b S e2.0 e3.0 in
+    let F = fit_rows q b.nums b.names b.dirs e1.0 e2.0 e3.0 in
     let G = fit_dirs b S e2.0 e3.0 in
     let k : length rs ≡ q.held = length_rows b.nums b.names q.held in
     let m : length (dirs_of b.dirs q.dirs) ≡ q.dirs = length_dirs b.dirs q.dirs in

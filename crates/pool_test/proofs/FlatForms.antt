@@ -2,16 +2,16 @@
 use Prim.Native.Nat.{ℕ, zero, suc, ◌+◌, ◌-◌, ◌*◌, ◌≤◌, ◌<◌, min}
 use mathlib.Core.Path.{◌≡◌, refl, sym, ap, ap₂, ◌∙◌}
 use mathlib.Core.List.{List, [], ◌∷◌, ◌++◌, append_assoc}
-use mathlib.Core.Bool.{Bool, true, false, cond, ◌&&◌}
+use mathlib.Core.Bool.{Bool, true}
 use native.Mathlib.Omega.{arith}
 use native.Mathlib.Nat.{add-zero, add-sub_cancel_left}
-use lib.Dec.{eqb, leb}
+use lib.Dec.{leb}
 use Rattle.std.proofs.lemmas.Bool.Decides.{nat_tests}
 use lib.ListN.{length, take, drop, get_or, replicate, length-drop, length-take, take-append-drop, get_or-eq_default}
 use lib.Seq.{length-take-le, take_all, drop-drop, get_or-drop}
 use borrow.Author.Tests.{leb-true, eqb-true, eq-eqb, le-leb}
 pub use Rattle.lists.specs.Bools.{both, and_of}
-use Rattle.limits.specs.Limits.{max_path, row_width, dir_width, last_counter}
+use Rattle.limits.specs.Limits.{max_path, row_width, dir_width}
 use Rattle.lists.specs.Runs.{all_of, tab, all_at, get_or_tab}
 use Rattle.lists.specs.Same.{same_bytes, same_bytes_refl, same_bytes_eq}
 use Rattle.lists.specs.Blocks.{pad, pad_fits, cat, length_cat, get_or_pad, flat_at, flat_part}
@@ -200,18 +200,12 @@ rows_flat_of cap n l s h a b x y f =
     }
 
 -- the same of whole buffers
-pub fit_rows : (b : Bufs) → Sized b.pool (length b.nums) (length b.names) (length b.dirs) → rest_ok b ≡ true → fits_ok b ≡ true
-    → Flat b.pool.chosen.rows b.pool.held b.nums b.names
-unfolding rest_ok fits_ok
-fit_rows b S r f =
-    let r1 = both (is_zero (cut_out b.nums (b.pool.held * row_width) (length b.nums))) _ r in
-    let r2 = both (is_zero (cut_out b.names (b.pool.held * max_path) (length b.names))) _ r1.1 in
-    let f1 = both (all_of (row_fits b.nums b.names) 0 b.pool.held) _ f in
-    rows_flat_of b.pool.chosen.rows b.pool.held b.nums b.names S.held S.nums_long S.names_long r1.0 r2.0 f1.0
-
-pub fit_flat : (q : Pool) (l s b : List ℕ) → sizes_ok q (length l) (length s) (length b) ≡ true → rest_ok (bufs q l s b) ≡ true → fits_ok (bufs q l s b) ≡ true
+pub fit_rows : (q : Pool) (l s b : List ℕ) → sizes_ok q (length l) (length s) (length b) ≡ true → rest_ok (bufs q l s b) ≡ true → fits_ok (bufs q l s b) ≡ true
     → Flat q.chosen.rows q.held l s
-fit_flat q l s b e r f = fit_rows (bufs q l s b) (sized q (length l) (length s) (length b) e) r f
+unfolding rest_ok fits_ok
+fit_rows q l s b e r f =
+    let S = sized q (length l) (length s) (length b) e in
+    rows_flat_of q.chosen.rows q.held l s S.held S.nums_long S.names_long (grind (arith, nat_tests)) (grind (arith, nat_tests)) (grind (arith, nat_tests))
 
 -- and the other way round
 pub row_tested : (b : Bufs) → Reads b → (i : ℕ) → i < b.pool.held → row_fits b.nums b.names i ≡ true
@@ -286,11 +280,7 @@ pub fit_dirs : (b : Bufs) → Sized b.pool (length b.nums) (length b.names) (len
     → FlatDirs b.pool.chosen.dir_rows b.pool.dirs b.dirs
 unfolding rest_ok fits_ok
 fit_dirs b S r f =
-    let r1 = both (is_zero (cut_out b.nums (b.pool.held * row_width) (length b.nums))) _ r in
-    let r2 = both (is_zero (cut_out b.names (b.pool.held * max_path) (length b.names))) _ r1.1 in
-    let r3 = both (is_zero (cut_out b.dirs (b.pool.dirs * dir_width) (length b.dirs))) _ r2.1 in
-    let f1 = both (all_of (row_fits b.nums b.names) 0 b.pool.held) _ f in
-    dirs_flat_of b.pool.chosen.dir_rows b.pool.dirs b.dirs S.dirs S.dirs_long r3.0 f1.1
+    dirs_flat_of b.pool.chosen.dir_rows b.pool.dirs b.dirs S.dirs S.dirs_long (grind (arith, nat_tests)) (grind (arith, nat_tests))
 
 -- and the other way round
 pub dir_tested : (cap m : ℕ) (b : List ℕ) → FlatDirs cap m b → (j : ℕ) → j < m → dir_fits b j ≡ true
@@ -326,8 +316,4 @@ cells_back n q k h z =
 pub fit_queue : (b : Bufs) → Sized b.pool (length b.nums) (length b.names) (length b.dirs) → rest_ok b ≡ true
     → pad 64 (take b.pool.free b.pool.queue) ≡ b.pool.queue
 unfolding rest_ok
-fit_queue b S r =
-    let r1 = both (is_zero (cut_out b.nums (b.pool.held * row_width) (length b.nums))) _ r in
-    let r2 = both (is_zero (cut_out b.names (b.pool.held * max_path) (length b.names))) _ r1.1 in
-    let r3 = both (is_zero (cut_out b.dirs (b.pool.dirs * dir_width) (length b.dirs))) _ r2.1 in
-    cells_back b.pool.free b.pool.queue S.queue_long S.free r3.1
+fit_queue b S r = cells_back b.pool.free b.pool.queue S.queue_long S.free (grind (arith, nat_tests))
