@@ -4,24 +4,25 @@ use mathlib.Core.Path.{◌≡◌, refl, sym, ap, ◌∙◌, subst}
 use mathlib.Core.Logic.{◌⊎◌, inl, inr, ⊎_elim}
 use mathlib.Core.List.Memᴰ
 use mathlib.Core.List.{List, [], ◌∷◌}
-use mathlib.Core.Bool.{Bool, true, false, not, cond, false≢true}
+use mathlib.Core.Bool.{Bool, true, false, not, false≢true}
 use native.Mathlib.Omega.{arith}
 use native.Mathlib.Decide.{ℕ_discrete}
-use lib.Dec.{eqb, ltb}
+use Rattle.std.proofs.lemmas.Bool.{cases_lt}
+use Rattle.std.proofs.lemmas.Bool.Decides.{nat_tests}
 use lib.ListN.{length, take, get_or}
 use lib.Seq.{length-take-le}
-use borrow.Author.Tests.{eqb-true, ltb-true, eq-eqb, ne_eqb, lt-ltb, not-true}
+use borrow.Author.Tests.{eqb-true, eq-eqb, ne_eqb, lt-ltb}
 use Rattle.lists.specs.Runs.{all_of, tab, all_intro, any_not, any_none}
 use Rattle.lists.specs.Same.{same_bytes, same_bytes_refl, same_bytes_eq}
 use Rattle.lists.specs.Distinct.{In, Distinct}
 use Rattle.lists.specs.Distinct.Distinct.{none, more}
 use Rattle.text.specs.Text.{is_text, walk_of}
 use Rattle.path.specs.Path.{components, same_path, normal, ancestors}
-use Rattle.path.proofs.Theorems.{same_path_lem, same_path_refl, same_normal}
+use Rattle.path.proofs.Theorems.{same_path_lem, same_normal}
 use Rattle.path.proofs.Ancestors.{ancestor_normal}
 use Rattle.slot_rows.specs.Rows.{Row, at, is_bound, path_of, gen_of, holds, find, rows_of}
 use Rattle.slot_rows.proofs.InBuffers.{length_rows}
-use Rattle.slot_rows.proofs.Finding.{holds_bound, holds_path, find_same, find_is}
+use Rattle.slot_rows.proofs.Finding.{holds_bound, holds_path, find_same}
 use Rattle.dir_rows.specs.Dirs.{Dirs, has_path}
 use Rattle.dir_rows.proofs.Joined.{in_has, has_one, has_in}
 use Rattle.dir_rows.proofs.Registering.{closed_by_parents}
@@ -31,6 +32,7 @@ use Rattle.pool_state.specs.State.{State, Valid, Bufs, queue_of, view, pool_of, 
 use Rattle.pool_state.specs.InBuffers.{pool_dirs}
 use Rattle.pool_state.specs.Reads.{pool_reads}
 use Rattle.pool_test.specs.Test.{sizes_ok, rest_ok, first_ok, row_ok, is_at, has_num, cell_ok, first_held, up_held, dir_ok, fits_ok, view_ok, is_pool, PoolExactly}
+use Rattle.pool_test.proofs.Filters.{first_of}
 use Rattle.pool_test.proofs.FlatForms.{both, and_of, below, sized, sized_tested, zero_part, fit_rows, row_tested, fit_dirs, dir_tested, fit_queue}
 
 -- ---- rows apart
@@ -53,19 +55,12 @@ past_text [] i h = refl
 past_text (r ∷ rs) zero h = absurd (omega arith)
 past_text (r ∷ rs) (suc i) h = past_text rs i (omega arith)
 
-split : (i n : ℕ) → (i < n) ⊎ (n ≤ i)
-split zero zero = inr (omega arith)
-split zero (suc n) = inl (omega arith)
-split (suc i) zero = inr (omega arith)
-split (suc i) (suc n) = ⊎_elim (λ h. inl (omega arith)) (λ h. inr (omega arith)) (split i n)
-
 module _ (c n : ℕ) (rs : List Row) (k : length rs ≡ n) (e : all_of (row_ok c rs) 0 n ≡ true) where
   row_says : (i : ℕ) → i < n → (gen_of (at rs i) < c) × (is_text (path_of (at rs i)) ≡ true) × (first_ok rs i ≡ true)
   unfolding row_ok
   row_says i h =
-      let t = both (ltb (gen_of (at rs i)) c) _ (below (row_ok c rs) n i e h) in
-      let u = both (is_text (path_of (at rs i))) _ t.1 in
-      (ltb-true _ _ t.0, u.0, u.1)
+      let t = below (row_ok c rs) n i e h in
+      (grind (arith, nat_tests), grind (arith, nat_tests), grind (arith, nat_tests))
 
   first : (i : ℕ) → is_bound (at rs i) ≡ true → find (path_of (at rs i)) rs ≡ i
   unfolding first_ok
@@ -75,14 +70,13 @@ module _ (c n : ℕ) (rs : List Row) (k : length rs ≡ n) (e : all_of (row_ok c
   rows_apart i j b d h = sym (first i b) ∙ find_same (path_of (at rs i)) (path_of (at rs j)) rs ((same_path_lem (path_of (at rs i)) (path_of (at rs j))).1 h) ∙ first j d
 
   rows_young : 1 ≤ c → (i : ℕ) → gen_of (at rs i) < c
-  rows_young b i = ⊎_elim (λ h. (row_says i h).0) (λ h. past_young rs i c b (omega arith)) (split i n)
+  rows_young b i = ⊎_elim (λ h. (row_says i h).0) (λ h. past_young rs i c b (omega arith)) (cases_lt i n)
 
   rows_text : (i : ℕ) → is_text (path_of (at rs i)) ≡ true
-  rows_text i = ⊎_elim (λ h. (row_says i h).1) (λ h. past_text rs i (omega arith)) (split i n)
+  rows_text i = ⊎_elim (λ h. (row_says i h).1) (λ h. past_text rs i (omega arith)) (cases_lt i n)
 
 first_tested : (s : State) → Valid s → (i : ℕ) → first_ok s.rows i ≡ true
-unfolding first_ok
-first_tested s ok i = go (is_bound (at s.rows i)) refl
+first_tested s ok i = first_of s.rows i (λ b j h. own b j h _ refl)
   where
     own : is_bound (at s.rows i) ≡ true → (j : ℕ) → j < i → (t : Bool) → holds (path_of (at s.rows i)) (at s.rows j) ≡ t → t ≡ false
     own b j h false e = refl
@@ -90,11 +84,6 @@ first_tested s ok i = go (is_bound (at s.rows i)) refl
         let d = holds_bound (path_of (at s.rows i)) (at s.rows j) e in
         let q : same_path (path_of (at s.rows j)) (path_of (at s.rows i)) ≡ true = sym (holds_path (path_of (at s.rows i)) (at s.rows j) d) ∙ e in
         absurd (omega (arith, ok.slots.apart i j b d (sym ((same_path_lem _ _).0 q))))
-
-    go : (t : Bool) → is_bound (at s.rows i) ≡ t → cond t (eqb (find (path_of (at s.rows i)) s.rows) i) true ≡ true
-    go false b = refl
-    go true b =
-        eq-eqb _ _ (find_is (path_of (at s.rows i)) s.rows i (holds_path (path_of (at s.rows i)) (at s.rows i) b ∙ same_path_refl (path_of (at s.rows i))) (λ j h. own b j h _ refl))
 
 row_passes : (s : State) → Valid s → (i : ℕ) → row_ok s.counter s.rows i ≡ true
 unfolding row_ok
@@ -142,10 +131,7 @@ once_take (y ∷ q) (suc n) (more f d) w (suc j) (suc k) a b e = once_take q n d
 cell_says : (rs : List Row) (q : List ℕ) (k : ℕ) → cell_ok rs q k ≡ true
     → (get_or q k 0 < length rs) × (is_bound (at rs (get_or q k 0)) ≡ false) × (has_num q k (get_or q k 0) ≡ false)
 unfolding cell_ok
-cell_says rs q k e =
-    let e1 = both (ltb (get_or q k 0) (length rs)) _ e in
-    let e2 = both (not (is_bound (at rs (get_or q k 0)))) _ e1.1 in
-    (ltb-true _ _ e1.0, not-true _ e2.0, not-true _ e2.1)
+cell_says rs q k e = (grind (arith, nat_tests), grind (arith, nat_tests), grind (arith, nat_tests))
 
 module _ (rs : List Row) (q : List ℕ) (n : ℕ) (e : all_of (cell_ok rs q) 0 n ≡ true) where
   cell : (k : ℕ) → k < n → (get_or q k 0 < length rs) × (is_bound (at rs (get_or q k 0)) ≡ false) × (has_num q k (get_or q k 0) ≡ false)
@@ -210,10 +196,7 @@ once_tab b i (suc k) (more f d) j t p q h e = go (ℕ_discrete i j) (once_tab b 
 pub dir_says : (b : List ℕ) (m j : ℕ) → dir_ok b m j ≡ true
     → (normal (dir_at b j) ≡ dir_at b j) × (has_path (dirs_of b j) (dir_at b j) ≡ false) × (up_held (dirs_of b m) (dir_at b j) ≡ true)
 unfolding dir_ok
-dir_says b m j e =
-    let e1 = both (same_bytes (normal (dir_at b j)) (dir_at b j)) _ e in
-    let e2 = both (not (has_path (dirs_of b j) (dir_at b j))) _ e1.1 in
-    (same_bytes_eq _ _ e1.0, not-true _ e2.0, e2.1)
+dir_says b m j e = (same_bytes_eq _ _ (grind (arith, nat_tests)), grind (arith, nat_tests), grind (arith, nat_tests))
 
 up_says : (ds xs : List (List ℕ)) (a : List ℕ) (t : List (List ℕ)) → first_held ds xs ≡ true → xs ≡ a ∷ t → has_path ds a ≡ true
 unfolding first_held
@@ -243,26 +226,32 @@ module _ (b : List ℕ) (m : ℕ) (e : all_of (dir_ok b m) 0 m ≡ true) where
   directories_of : Dirs (dirs_of b m)
   directories_of = record { normals = normals; once = once; closed = closed_by_parents (dirs_of b m) nearest }
 
+-- a normal directory is none of those before it that are normal and other bytes
+pub fresh : (b : List ℕ) (j : ℕ) → ((i : ℕ) → i ≤ j → normal (dir_at b i) ≡ dir_at b i) → ((i : ℕ) → i < j → dir_at b i ≡ dir_at b j → ⊥)
+    → has_path (dirs_of b j) (dir_at b j) ≡ false
+unfolding dirs_of
+fresh b j n d = go _ refl
+  where
+    go : (t : Bool) → has_path (tab (dir_at b) 0 j) (dir_at b j) ≡ t → t ≡ false
+    go false u = refl
+    go true u =
+        let r = has_one (tab (dir_at b) 0 j) (dir_at b j) u in
+        let s = in_dirs b 0 j r.0 r.1 in
+        absurd (d s.0 (omega (arith, s.2)) (sym (n s.0 (omega (arith, s.2))) ∙ (same_normal (dir_at b s.0) (dir_at b j)).1 (ap components s.3 ∙ r.2) ∙ n j (omega arith)))
+
 dir_passes : (b : List ℕ) (m j : ℕ) → Dirs (dirs_of b m) → j < m → dir_ok b m j ≡ true
 unfolding dir_ok dirs_of first_held
 dir_passes b m j D h =
-    let i : In (dir_at b j) (dirs_of b m) = dirs_in_lem b 0 m j (omega arith) (omega arith) in
-    let n : normal (dir_at b j) ≡ dir_at b j = D.normals (dir_at b j) i in
-    and_of _ _ (ap (λ (x : List ℕ). same_bytes x (dir_at b j)) n ∙ same_bytes_refl (dir_at b j))
-    (and_of _ _ (ap not (fresh n _ refl)) (up (ancestors (dir_at b j)) (λ a k. in_has (dirs_of b m) a a (D.closed (dir_at b j) a i k) refl)))
+    and_of _ _ (ap (λ (x : List ℕ). same_bytes x (dir_at b j)) (D.normals (dir_at b j) (inside j (omega arith))) ∙ same_bytes_refl (dir_at b j))
+    (and_of _ _ (ap not (fresh b j (λ i l. D.normals (dir_at b i) (inside i l)) (λ i l. once_tab b 0 m D.once i j (omega arith) l (omega arith))))
+    (up (ancestors (dir_at b j)) (λ a k. in_has (dirs_of b m) a a (D.closed (dir_at b j) a (inside j (omega arith)) k) refl)))
   where
+    inside : (i : ℕ) → i ≤ j → In (dir_at b i) (tab (dir_at b) 0 m)
+    inside i l = dirs_in_lem b 0 m i (omega arith) (omega arith)
+
     up : (xs : List (List ℕ)) → ((a : List ℕ) → In a xs → has_path (dirs_of b m) a ≡ true) → first_held (dirs_of b m) xs ≡ true
     up [] f = refl
     up (a ∷ xs) f = f a (Memᴰ.head refl)
-
-    fresh : normal (dir_at b j) ≡ dir_at b j → (t : Bool) → has_path (tab (dir_at b) 0 j) (dir_at b j) ≡ t → t ≡ false
-    fresh n false u = refl
-    fresh n true u =
-        let r = has_one (tab (dir_at b) 0 j) (dir_at b j) u in
-        let s = in_dirs b 0 j r.0 r.1 in
-        let k : In (dir_at b s.0) (dirs_of b m) = dirs_in_lem b 0 m s.0 (omega arith) (omega (arith, s.2)) in
-        let q : dir_at b s.0 ≡ dir_at b j = sym (D.normals (dir_at b s.0) k) ∙ (same_normal (dir_at b s.0) (dir_at b j)).1 (ap components s.3 ∙ r.2) ∙ n in
-        absurd (once_tab b 0 m D.once s.0 j (omega arith) (omega (arith, s.2)) (omega arith) q)
 
 -- ---- the whole
 
@@ -278,7 +267,7 @@ is_pool_of b e =
     let v1 = both (all_of (row_ok q.counter rs) 0 q.held) _ e3.1 in
     let v2 = both (all_of (cell_ok rs q.queue) 0 q.free) _ v1.1 in
     let S = sized q (length b.nums) (length b.names) (length b.dirs) e1.0 in
-    let F = fit_rows b S e2.0 e3.0 in
+    let F = fit_rows q b.nums b.names b.dirs e1.0 e2.0 e3.0 in
     let G = fit_dirs b S e2.0 e3.0 in
     let k : length rs ≡ q.held = length_rows b.nums b.names q.held in
     let m : length (dirs_of b.dirs q.dirs) ≡ q.dirs = length_dirs b.dirs q.dirs in

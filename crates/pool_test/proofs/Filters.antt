@@ -35,19 +35,22 @@ keys_apart g f n ks i K h e j l u =
 
 -- ---- slot rows
 
+-- a row is the first of its path unless it is bound and a row before it holds the path
+pub first_of : (rs : List Row) (i : ℕ) → (is_bound (at rs i) ≡ true → (j : ℕ) → j < i → holds (path_of (at rs i)) (at rs j) ≡ false) → first_ok rs i ≡ true
+unfolding first_ok
+first_of rs i h = go (is_bound (at rs i)) refl
+  where
+    go : (t : Bool) → is_bound (at rs i) ≡ t → cond t (eqb (find (path_of (at rs i)) rs) i) true ≡ true
+    go false b = refl
+    go true b = eq-eqb _ _ (find_is (path_of (at rs i)) rs i (holds_path (path_of (at rs i)) (at rs i) b ∙ same_path_refl (path_of (at rs i))) (h b))
+
 pub first_alone : (rs : List Row) (n : ℕ) (ks : List ℕ) (i : ℕ) → Keys key_of (λ j. path_of (at rs j)) n ks → i < n → list_any (λ y. eqb y (get_or ks i 0)) (take i ks) ≡ false
     → first_ok rs i ≡ true
-unfolding first_ok
-first_alone rs n ks i K h e = go (is_bound (at rs i)) refl
+first_alone rs n ks i K h e = first_of rs i (λ b j l. other j l _ refl)
   where
     other : (j : ℕ) → j < i → (t : Bool) → is_bound (at rs j) ≡ t → holds (path_of (at rs i)) (at rs j) ≡ false
     other j l false u = holds_unbound (path_of (at rs i)) (at rs j) u
     other j l true u = holds_path (path_of (at rs i)) (at rs j) u ∙ key_other (path_of (at rs j)) (path_of (at rs i)) (keys_apart key_of (λ j. path_of (at rs j)) n ks i K h e j l)
-
-    go : (t : Bool) → is_bound (at rs i) ≡ t → cond t (eqb (find (path_of (at rs i)) rs) i) true ≡ true
-    go false b = refl
-    go true b =
-        eq-eqb _ _ (find_is (path_of (at rs i)) rs i (holds_path (path_of (at rs i)) (at rs i) b ∙ same_path_refl (path_of (at rs i))) (λ j l. other j l _ refl))
 
 -- ---- directories by bytes
 

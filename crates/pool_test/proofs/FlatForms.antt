@@ -2,15 +2,16 @@
 use Prim.Native.Nat.{ℕ, zero, suc, ◌+◌, ◌-◌, ◌*◌, ◌≤◌, ◌<◌, min}
 use mathlib.Core.Path.{◌≡◌, refl, sym, ap, ap₂, ◌∙◌}
 use mathlib.Core.List.{List, [], ◌∷◌, ◌++◌, append_assoc}
-use mathlib.Core.Bool.{Bool, true, false, cond, ◌&&◌}
+use mathlib.Core.Bool.{Bool, true}
 use native.Mathlib.Omega.{arith}
 use native.Mathlib.Nat.{add-zero, add-sub_cancel_left}
-use lib.Dec.{eqb, leb}
+use lib.Dec.{leb}
+use Rattle.std.proofs.lemmas.Bool.Decides.{nat_tests}
 use lib.ListN.{length, take, drop, get_or, replicate, length-drop, length-take, take-append-drop, get_or-eq_default}
 use lib.Seq.{length-take-le, take_all, drop-drop, get_or-drop}
 use borrow.Author.Tests.{leb-true, eqb-true, eq-eqb, le-leb}
 pub use Rattle.lists.specs.Bools.{both, and_of}
-use Rattle.limits.specs.Limits.{max_path, row_width, dir_width, last_counter}
+use Rattle.limits.specs.Limits.{max_path, row_width, dir_width}
 use Rattle.lists.specs.Runs.{all_of, tab, all_at, get_or_tab}
 use Rattle.lists.specs.Same.{same_bytes, same_bytes_refl, same_bytes_eq}
 use Rattle.lists.specs.Blocks.{pad, pad_fits, cat, length_cat, get_or_pad, flat_at, flat_part}
@@ -37,37 +38,23 @@ below f n j e h = all_at f 0 n j e (omega arith) (omega arith)
 pub sized : (q : Pool) (l n d : ℕ) → sizes_ok q l n d ≡ true → Sized q l n d
 unfolding sizes_ok
 sized q l n d e =
-    let e1 = both (leb q.chosen.rows 64) _ e in
-    let e2 = both (leb q.chosen.dir_rows 256) _ e1.1 in
-    let e3 = both (leb q.held q.chosen.rows) _ e2.1 in
-    let e4 = both (leb q.dirs q.chosen.dir_rows) _ e3.1 in
-    let e5 = both (leb q.free 64) _ e4.1 in
-    let e6 = both (leb 1 q.counter) _ e5.1 in
-    let e7 = both (leb q.counter last_counter) _ e6.1 in
-    let e8 = both (eqb l (q.chosen.rows * row_width)) _ e7.1 in
-    let e9 = both (eqb n (q.chosen.rows * max_path)) _ e8.1 in
-    let e10 = both (eqb d (q.chosen.dir_rows * dir_width)) _ e9.1 in
     record {
-      rows = leb-true _ _ e1.0;
-      dir_rows_lem = leb-true _ _ e2.0;
-      held = leb-true _ _ e3.0;
-      dirs = leb-true _ _ e4.0;
-      free = leb-true _ _ e5.0;
-      begun = leb-true _ _ e6.0;
-      counted = leb-true _ _ e7.0;
-      nums_long = eqb-true _ _ e8.0;
-      names_long = eqb-true _ _ e9.0;
-      dirs_long = eqb-true _ _ e10.0;
-      queue_long = eqb-true _ _ e10.1;
+      rows = grind (arith, nat_tests, e);
+      dir_rows_lem = grind (arith, nat_tests, e);
+      held = grind (arith, nat_tests, e);
+      dirs = grind (arith, nat_tests, e);
+      free = grind (arith, nat_tests, e);
+      begun = grind (arith, nat_tests, e);
+      counted = grind (arith, nat_tests, e);
+      nums_long = grind (arith, nat_tests, e);
+      names_long = grind (arith, nat_tests, e);
+      dirs_long = grind (arith, nat_tests, e);
+      queue_long = grind (arith, nat_tests, e);
     }
 
 pub sized_tested : (b : Bufs) → Reads b → sizes_ok b.pool (length b.nums) (length b.names) (length b.dirs) ≡ true
 unfolding sizes_ok
-sized_tested b R =
-    and_of _ _ (le-leb _ _ R.rows) (and_of _ _ (le-leb _ _ R.dir_rows_lem) (and_of _ _ (le-leb _ _ R.held) (and_of _ _ (le-leb _ _ R.dirs)
-    (and_of _ _ (le-leb b.pool.free 64 (omega (arith, R.free, R.held, R.rows)))
-    (and_of _ _ (le-leb _ _ R.begun) (and_of _ _ (le-leb _ _ R.counted)
-    (and_of _ _ (eq-eqb _ _ R.nums_long) (and_of _ _ (eq-eqb _ _ R.names_long) (and_of _ _ (eq-eqb _ _ R.dirs_long) (eq-eqb _ _ R.queue_long))))))))))
+sized_tested b R = grind (arith, nat_tests)
 
 -- ---- zeros
 
@@ -168,17 +155,11 @@ rows_back (suc n) l s a b f =
 
 bare_of : (m k n : ℕ) → bare_ok m k n ≡ true → m ≡ 0 → (k ≡ 0) × (n ≡ 0)
 unfolding bare_ok
-bare_of m k n e z =
-    let y = both (eqb k 0) _ (rw (eq-eqb _ _ z) at e) in
-    (eqb-true _ _ y.0, eqb-true _ _ y.1)
+bare_of m k n e z = (grind (arith, nat_tests), grind (arith, nat_tests))
 
 bare_tested : (m k n : ℕ) → (m ≡ 0 → (k ≡ 0) × (n ≡ 0)) → bare_ok m k n ≡ true
 unfolding bare_ok
-bare_tested m k n h = go (eqb m 0) refl
-  where
-    go : (t : Bool) → eqb m 0 ≡ t → cond t (eqb k 0 && eqb n 0) true ≡ true
-    go true e = let y = h (eqb-true m 0 e) in and_of _ _ (eq-eqb _ _ y.0) (eq-eqb _ _ y.1)
-    go false e = refl
+bare_tested m k n h = grind (arith, nat_tests)
 
 -- the test of row j, on the lists from row j on
 fit_of : (l s : List ℕ) (j : ℕ) → j * max_path + max_path ≤ length s → row_fits l s j ≡ true → Fit (drop (j * row_width) l) (drop (j * max_path) s)
@@ -219,18 +200,12 @@ rows_flat_of cap n l s h a b x y f =
     }
 
 -- the same of whole buffers
-pub fit_rows : (b : Bufs) → Sized b.pool (length b.nums) (length b.names) (length b.dirs) → rest_ok b ≡ true → fits_ok b ≡ true
-    → Flat b.pool.chosen.rows b.pool.held b.nums b.names
-unfolding rest_ok fits_ok
-fit_rows b S r f =
-    let r1 = both (is_zero (cut_out b.nums (b.pool.held * row_width) (length b.nums))) _ r in
-    let r2 = both (is_zero (cut_out b.names (b.pool.held * max_path) (length b.names))) _ r1.1 in
-    let f1 = both (all_of (row_fits b.nums b.names) 0 b.pool.held) _ f in
-    rows_flat_of b.pool.chosen.rows b.pool.held b.nums b.names S.held S.nums_long S.names_long r1.0 r2.0 f1.0
-
-pub fit_flat : (q : Pool) (l s b : List ℕ) → sizes_ok q (length l) (length s) (length b) ≡ true → rest_ok (bufs q l s b) ≡ true → fits_ok (bufs q l s b) ≡ true
+pub fit_rows : (q : Pool) (l s b : List ℕ) → sizes_ok q (length l) (length s) (length b) ≡ true → rest_ok (bufs q l s b) ≡ true → fits_ok (bufs q l s b) ≡ true
     → Flat q.chosen.rows q.held l s
-fit_flat q l s b e r f = fit_rows (bufs q l s b) (sized q (length l) (length s) (length b) e) r f
+unfolding rest_ok fits_ok
+fit_rows q l s b e r f =
+    let S = sized q (length l) (length s) (length b) e in
+    rows_flat_of q.chosen.rows q.held l s S.held S.nums_long S.names_long (grind (arith, nat_tests)) (grind (arith, nat_tests)) (grind (arith, nat_tests))
 
 -- and the other way round
 pub row_tested : (b : Bufs) → Reads b → (i : ℕ) → i < b.pool.held → row_fits b.nums b.names i ≡ true
@@ -305,11 +280,7 @@ pub fit_dirs : (b : Bufs) → Sized b.pool (length b.nums) (length b.names) (len
     → FlatDirs b.pool.chosen.dir_rows b.pool.dirs b.dirs
 unfolding rest_ok fits_ok
 fit_dirs b S r f =
-    let r1 = both (is_zero (cut_out b.nums (b.pool.held * row_width) (length b.nums))) _ r in
-    let r2 = both (is_zero (cut_out b.names (b.pool.held * max_path) (length b.names))) _ r1.1 in
-    let r3 = both (is_zero (cut_out b.dirs (b.pool.dirs * dir_width) (length b.dirs))) _ r2.1 in
-    let f1 = both (all_of (row_fits b.nums b.names) 0 b.pool.held) _ f in
-    dirs_flat_of b.pool.chosen.dir_rows b.pool.dirs b.dirs S.dirs S.dirs_long r3.0 f1.1
+    dirs_flat_of b.pool.chosen.dir_rows b.pool.dirs b.dirs S.dirs S.dirs_long (grind (arith, nat_tests)) (grind (arith, nat_tests))
 
 -- and the other way round
 pub dir_tested : (cap m : ℕ) (b : List ℕ) → FlatDirs cap m b → (j : ℕ) → j < m → dir_fits b j ≡ true
@@ -345,8 +316,4 @@ cells_back n q k h z =
 pub fit_queue : (b : Bufs) → Sized b.pool (length b.nums) (length b.names) (length b.dirs) → rest_ok b ≡ true
     → pad 64 (take b.pool.free b.pool.queue) ≡ b.pool.queue
 unfolding rest_ok
-fit_queue b S r =
-    let r1 = both (is_zero (cut_out b.nums (b.pool.held * row_width) (length b.nums))) _ r in
-    let r2 = both (is_zero (cut_out b.names (b.pool.held * max_path) (length b.names))) _ r1.1 in
-    let r3 = both (is_zero (cut_out b.dirs (b.pool.dirs * dir_width) (length b.dirs))) _ r2.1 in
-    cells_back b.pool.free b.pool.queue S.queue_long S.free r3.1
+fit_queue b S r = cells_back b.pool.free b.pool.queue S.queue_long S.free (grind (arith, nat_tests))

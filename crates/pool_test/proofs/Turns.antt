@@ -20,16 +20,22 @@ use Rattle.lists.specs.Same.{same, same_bytes}
 use Rattle.pool_test.specs.Test.{is_at, has_num}
 use Rattle.std.specs.Str.{bytes_eq}
 
+-- ---- tests in a row
+
+and_cond : (a b : Bool) → (a && b) ≡ cond a b false
+and_cond true b = refl
+and_cond false b = refl
+
+or_cond : (a b : Bool) → (a || b) ≡ cond a true b
+or_cond true b = refl
+or_cond false b = refl
+
 -- ---- `contains` over the first of a list
 
 listed : (t : ℕ → Bool) (l : List ℕ) (i k : ℕ) → i + k ≤ length l → list_any t (take k (drop i l)) ≡ any_of (λ j. t (get_or l j 0)) i k
 unfolding any_of
 listed t l i zero h = refl
-listed t l i (suc k) h = rw (drop-cons l i 0 (omega arith), listed t l (suc i) k (omega arith)) (go (t (get_or l i 0)))
-  where
-    go : (b : Bool) → (b || any_of (λ j. t (get_or l j 0)) (suc i) k) ≡ cond b true (any_of (λ j. t (get_or l j 0)) (suc i) k)
-    go true = refl
-    go false = refl
+listed t l i (suc k) h = rw (drop-cons l i 0 (omega arith), listed t l (suc i) k (omega arith)) (or_cond (t (get_or l i 0)) _)
 
 pub num_told : (l : List ℕ) (k x : ℕ) → k ≤ length l → has_num l k x ≡ list_any (λ y. eqb y x) (take k l)
 unfolding is_at
@@ -55,31 +61,19 @@ unfolding same
 same_told [] [] = refl
 same_told [] (y ∷ b) = refl
 same_told (x ∷ a) [] = refl
-same_told (x ∷ a) (y ∷ b) = rw (same_told a b) (go (eqb x y))
-  where
-    go : (t : Bool) → (t && same_bytes a b) ≡ cond t (same_bytes a b) false
-    go true = refl
-    go false = refl
+same_told (x ∷ a) (y ∷ b) = rw (same_told a b) (and_cond (eqb x y) _)
 
 -- ---- `all` and `any` over 0..n
 
 all_listed : (f : ℕ → Bool) (i k : ℕ) → list_all f (range_with_len i k) ≡ all_of f i k
 unfolding all_of
 all_listed f i zero = refl
-all_listed f i (suc k) = rw (all_listed f (i + 1) k, add-one) (go (f i))
-  where
-    go : (t : Bool) → (t && all_of f (suc i) k) ≡ cond t (all_of f (suc i) k) false
-    go true = refl
-    go false = refl
+all_listed f i (suc k) = rw (all_listed f (i + 1) k, add-one) (and_cond (f i) _)
 
 any_listed : (f : ℕ → Bool) (i k : ℕ) → list_any f (range_with_len i k) ≡ any_of f i k
 unfolding any_of
 any_listed f i zero = refl
-any_listed f i (suc k) = rw (any_listed f (i + 1) k, add-one) (go (f i))
-  where
-    go : (t : Bool) → (t || any_of f (suc i) k) ≡ cond t true (any_of f (suc i) k)
-    go true = refl
-    go false = refl
+any_listed f i (suc k) = rw (any_listed f (i + 1) k, add-one) (or_cond (f i) _)
 
 -- where the closure c answers f, they answer `all_of` and `any_of`
 module _ {F : Type 0} {g : Mut F (ℕ × Unit {0}) Bool} (f : ℕ → Bool) (n : ℕ) (u : _) (c : F) (r : Bool) where

@@ -15,17 +15,16 @@ use Rattle.lists.specs.Same.{same_bytes, same_bytes_refl, same_bytes_eq}
 use Rattle.lists.specs.Distinct.{In}
 use Rattle.path.specs.Path.{components, normal, ancestors}
 use Rattle.path.specs.Walk.{Above, up_from}
-use Rattle.path.proofs.Theorems.{same_normal}
 use Rattle.path.specs.Spelling.{idle_slash, has_idle, is_normal}
 use Rattle.path.proofs.SpellingLaws.{normal_by_bytes}
 use Rattle.path.proofs.Slashes.{short}
 use Rattle.dir_rows.specs.Dirs.{has_path}
 use Rattle.dir_rows.specs.Rows.{dir_at, dirs_of}
-use Rattle.dir_rows.proofs.Joined.{in_has, has_one, has_in, has_normal}
+use Rattle.dir_rows.proofs.Joined.{in_has, has_in, has_normal}
 use Rattle.pool_test.specs.Test.{cut_out, first_held, up_held, dir_ok}
 use Rattle.pool_test.specs.Keys.{is_dir, has_dir, Tail, Upright, Fine, Judged}
 use Rattle.pool_test.proofs.FlatForms.{both, and_of, part_rest}
-use Rattle.pool_test.proofs.Exactly.{in_dirs, dirs_in_lem, dir_says, normals}
+use Rattle.pool_test.proofs.Exactly.{in_dirs, dirs_in_lem, dir_says, normals, fresh}
 use Rattle.pool_test.proofs.Turns.{any_one}
 use denote.Param.Members.{Mut}
 use Rattle.std.specs.Bool.{MatchBool}
@@ -244,19 +243,10 @@ module _ (b : List ℕ) (m : ℕ) (F : (j : ℕ) → j < m → Fine b m j) where
   normal_row j h = normal_all (suc (length (dir_at b j))) j h (omega arith)
 
   passes : (j : ℕ) → j < m → dir_ok b m j ≡ true
-  unfolding dir_ok dirs_of
+  unfolding dir_ok
   passes j h =
       and_of _ _ (ap (λ (p : List ℕ). same_bytes p (dir_at b j)) (normal_row j h) ∙ same_bytes_refl (dir_at b j))
-      (and_of _ _ (ap not (fresh _ refl)) (F j h).upright.held)
-    where
-      fresh : (t : Bool) → has_path (tab (dir_at b) 0 j) (dir_at b j) ≡ t → t ≡ false
-      fresh false u = refl
-      fresh true u =
-          let r = has_one (tab (dir_at b) 0 j) (dir_at b j) u in
-          let s = in_dirs b 0 j r.0 r.1 in
-          let q : dir_at b s.0 ≡ dir_at b j =
-          sym (normal_row s.0 (omega (arith, s.2))) ∙ (same_normal (dir_at b s.0) (dir_at b j)).1 (ap components s.3 ∙ r.2) ∙ normal_row j h in
-          absurd ((F j h).first s.0 (omega (arith, s.2)) q)
+      (and_of _ _ (ap not (fresh b j (λ i l. normal_row i (omega arith)) (F j h).first)) (F j h).upright.held)
 
   all_fine : true ≡ all_of (dir_ok b m) 0 m
   all_fine = sym (all_intro (dir_ok b m) 0 m (λ j p h. passes j (omega arith)))

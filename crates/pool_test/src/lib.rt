@@ -326,7 +326,7 @@ fn view_ok(nums: &[u64], names: &[u8], dirs: &[u8], pool: Pool) -> bool
 }
 
 // Whether the record and its rows are a pool.
-#[tactic(auto, using(crate::proofs::FlatForms::sized, crate::proofs::FlatForms::fit_flat), unfolding(crate::specs::Test::is_pool))]
+#[tactic(auto, using(crate::proofs::FlatForms::sized, crate::proofs::FlatForms::fit_rows), unfolding(crate::specs::Test::is_pool))]
 pub fn pool_ok(nums: &[u64], names: &[u8], dirs: &[u8], pool: Pool) -> bool
     ensures { result ≡ is_pool (bufs pool nums.now names.now dirs.now) }
 {
