@@ -40,13 +40,14 @@ fn replay_all() -> Tally {
     tally
 }
 
-// The tally with the next entry in it, if there is one.
+// The tally with the next entry in it, if its output is there. A script that does not fit counts as an empty one.
 fn replay(tally: Tally) -> Option<Tally> {
     let mut script = io::large_buffer();
     let mut recorded = io::large_buffer();
     let mut out = io::large_buffer();
-    let n = read_run(&mut script)?;
+    let asked = read_run(&mut script);
     let m = read_run(&mut recorded)?;
+    let n = asked.unwrap_or(0);
     let len = script::pool_script(&script[..n], &mut out);
     let same = len <= out.len() && out[..len] == recorded[..m];
     if !same {
