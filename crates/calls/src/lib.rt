@@ -10,8 +10,7 @@ ghost use Rattle.calls_gate.specs.Table.{refusal_of};
 ghost use Rattle.calls_gate.specs.Replies.{came, replies};
 ghost use Rattle.calls_gate.specs.Calls.{inner_m, call_p};
 
-use calls_gate::{Call, NOTHING, Reply, Told};
-use calls_path::Went;
+use calls_gate::{Call, NOTHING, Reply, Told, Went};
 use device::{Geometry, Place};
 use limits::{DIR_WIDTH, ROW_WIDTH};
 use pool_state::Pool;
@@ -147,11 +146,11 @@ pub fn make(
         ≡ call_p plan.now geometry call first.now second.now buf.old
         (before bytes.old phys.old place nums.old names.old dirs.old pool) }
 {
-    let no = calls_gate::refusal(
+    let refused = calls_gate::refusal(
         bytes, phys, geometry, place, nums, names, dirs, pool, call, first, second,
     );
-    if no != 0 {
-        return calls_gate::refuse(no, place, nums, names, dirs, pool, call);
+    if let Some(answer) = refused {
+        return calls_gate::refuse(answer, place, nums, names, dirs, pool, call);
     }
     let done = inner(
         bytes, phys, geometry, plan, place, nums, names, dirs, pool, call, first, second, buf,

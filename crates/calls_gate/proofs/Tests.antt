@@ -2,11 +2,12 @@
 use Prim.Native.Nat.{ℕ, ◌*◌, ◌/◌, ◌≤◌, ◌<◌}
 use native.Mathlib.Omega.{arith}
 use mathlib.Core.Path.{◌≡◌, refl, sym, ap, ◌∙◌}
-use mathlib.Core.Bool.{Bool, true, false}
+use mathlib.Core.Bool.{Bool, true, false, cond, false≢true}
 use mathlib.Core.List.{List}
 use lib.Dec.{eqb, leb}
 use lib.ListN.{length}
-use borrow.Author.Tests.{le-leb, lt-leb, eq-eqb, ne_eqb}
+use borrow.Author.Tests.{le-leb, lt-leb, eq-eqb, ne_eqb, eqb-true}
+use Rattle.std.specs.Prelude.{Option, None, Some}
 use Rattle.limits.specs.Limits.{max_path, row_width, dir_width}
 use Rattle.text.specs.Text.{is_text}
 use Rattle.device.specs.declared.Geometry.{Geometry}
@@ -24,7 +25,7 @@ use Rattle.calls_gate.specs.declared.Answer.TheVariants.{TooSmall}
 use Rattle.calls_gate.specs.declared.Call.{Call}
 use Rattle.calls_gate.specs.declared.Reply.{Reply}
 use Rattle.calls_gate.specs.declared.Takes.{Takes}
-use Rattle.calls_gate.specs.Answers.{answer_of}
+use Rattle.calls_gate.specs.Answers.{answer_of, refused_as}
 use Rattle.calls_gate.specs.Replies.{silently}
 use Rattle.calls_gate.specs.Table.{takes_of, rows_b, holds_pool, mountable, text_if, refusal_of, zeroed, refused_b}
 
@@ -203,3 +204,18 @@ refusal_number g c one two l =
     let first = either IsNumber (text_if (takes_of c).first one) {y = 3} second (omega arith) in
     either IsNumber (takes_of c).mounts (either IsNumber (mountable g l) (omega arith) (omega arith))
     (either IsNumber (is_pool l.bufs) (either IsNumber (holds_pool g l) first (omega arith)) (omega arith))
+
+-- a refusal that there is, and none
+pub as_some : (n : ℕ) (r : Option Answer) (a : Answer) → r ≡ refused_as n → r ≡ Some a → (n ≡ 0 → ⊥) × (a ≡ answer_of n)
+as_some n r a e f = go (eqb n 0) refl (sym f ∙ e)
+  where
+    go : (t : Bool) → eqb n 0 ≡ t → Some a ≡ cond t None (Some (answer_of n)) → (n ≡ 0 → ⊥) × (a ≡ answer_of n)
+    go true q h = cc
+    go false q h = (λ z. false≢true (sym q ∙ eq-eqb n 0 z), cc)
+
+pub as_none : (n : ℕ) (r : Option Answer) → r ≡ refused_as n → r ≡ None → n ≡ 0
+as_none n r e f = go (eqb n 0) refl (sym f ∙ e)
+  where
+    go : (t : Bool) → eqb n 0 ≡ t → None ≡ cond t None (Some (answer_of n)) → n ≡ 0
+    go true q h = eqb-true n 0 q
+    go false q h = cc

@@ -1,5 +1,5 @@
 -- The answers of the public calls, and 01's number of each ("Numbers that come back"); 0 is a call that was done.
-use Rattle.std.specs.Prelude.{ℕ, ◌≡◌, refl, cond, eqb}
+use Rattle.std.specs.Prelude.{ℕ, ◌≡◌, refl, cond, eqb, Option, None, Some}
 use Rattle.std.proofs.Common.{arith, sym, ap, ◌∙◌, eqb-true}
 use Rattle.lists.specs.Runs.{all_of, all_at}
 use Rattle.pool_state.specs.Numbers.{IsNumber}
@@ -52,6 +52,10 @@ answer_of n =
     (cond (eqb n 10) Failed
     (cond (eqb n 11) Short
     (cond (eqb n 12) TooMany TooSmall))))))))))))
+
+-- The answer of a refusal by its number: none where the number is 0.
+abbrev pub refused_as : ℕ → Option Answer
+refused_as n = cond (eqb n 0) None (Some (answer_of n))
 
 pub answer_back : (a : Answer) → answer_of (number_of a) ≡ a
 unfolding number_of answer_of

@@ -6,7 +6,7 @@
 ghost use Rattle.std.specs.Prelude.{◌≡◌};
 ghost use Rattle.pool_state.specs.State.{bufs};
 ghost use Rattle.pool_steps.specs.World.{before};
-ghost use Rattle.calls_gate.specs.Answers.{number_of, answer_of};
+ghost use Rattle.calls_gate.specs.Answers.{number_of, answer_of, refused_as};
 ghost use Rattle.calls_gate.specs.Table.{opening, takes, takes_of, rows_b, text_if, refusal_of, refused_b};
 ghost use Rattle.calls_gate.specs.Replies.{silently};
 
@@ -161,6 +161,15 @@ pub const NOTHING: Told = Told {
     yes: false,
 };
 
+// What a call came to that was not refused here: its number, what it tells, and the place and the record after it.
+#[derive(Clone, Copy)]
+pub struct Went {
+    pub out: u8,
+    pub told: Told,
+    pub place: Place,
+    pub pool: Pool,
+}
+
 // What a call comes to: its answer, what it tells, and the place and the record after it.
 #[derive(Clone, Copy)]
 pub struct Reply {
@@ -247,7 +256,7 @@ fn path_ok(asked: bool, path: &[u8]) -> bool
     !asked || text::is_text(path)
 }
 
-// The number of the first refusal, and 0 where there is none.
+// The answer of the first refusal, if there is one.
 pub fn refusal(
     bytes: &[u8],
     phys: &[u64],
@@ -260,35 +269,35 @@ pub fn refusal(
     call: Call,
     first: &[u8],
     second: &[u8],
-) -> u8
-    ensures { result ≡ refusal_of geometry call first.now second.now (before bytes.now phys.now place nums.now names.now dirs.now pool) }
+) -> Option<Answer>
+    ensures { result ≡ refused_as (refusal_of geometry call first.now second.now (before bytes.now phys.now place nums.now names.now dirs.now pool)) }
 {
     let takes = takes_of(call);
     if takes.mounts {
         if !device::shape_ok(bytes, phys, geometry) {
-            return 2;
+            return Some(Answer::WrongShape);
         }
         if !rows_ok(nums, names, dirs) {
-            return 2;
+            return Some(Answer::WrongShape);
         }
-        return 0;
+        return None;
     }
     if !pool_test::pool_ok(nums, names, dirs, pool) {
-        return 1;
+        return Some(Answer::NotPool);
     }
     if !device::shape_ok(bytes, phys, geometry) {
-        return 2;
+        return Some(Answer::WrongShape);
     }
     if phys.len() < pool.held {
-        return 2;
+        return Some(Answer::WrongShape);
     }
     if !path_ok(takes.first, first) {
-        return 3;
+        return Some(Answer::NotText);
     }
     if !path_ok(takes.second, second) {
-        return 3;
+        return Some(Answer::NotText);
     }
-    0
+    None
 }
 
 // A reply that tells nothing but its answer.
@@ -305,7 +314,7 @@ pub fn silent(answer: Answer, place: Place, pool: Pool) -> Reply
 
 // The reply of a refusal: at a mount the record and the rows become zero.
 pub fn refuse(
-    no: u8,
+    answer: Answer,
     place: Place,
     nums: &mut [u64],
     names: &mut [u8],
@@ -313,11 +322,10 @@ pub fn refuse(
     pool: Pool,
     call: Call,
 ) -> Reply
-    ensures told { result ≡ silently (answer_of no) place result.pool }
+    ensures told { result ≡ silently answer place result.pool }
     ensures left { bufs result.pool nums.new names.new dirs.new
         ≡ refused_b call (bufs pool nums.old names.old dirs.old) }
 {
-    let answer = answer_of(no);
     let takes = takes_of(call);
     if takes.mounts {
         slot_rows::clear_rows(nums, names);

@@ -19,7 +19,7 @@ use Rattle.calls_gate.specs.Replies.{Came, came}
 use Rattle.calls_gate.specs.Table.{takes_of, refusal_of}
 use Rattle.calls_gate.specs.Calls.{quiet, made, found, described, inner_m}
 use Rattle.calls_gate.proofs.Passed.{ready}
-use Rattle.calls_path.specs.declared.Went.{Went}
+use Rattle.calls_gate.specs.declared.Went.{Went}
 use Rattle.calls_path.specs.Quiet.{quietly}
 
 -- What the call d comes to, where it is the one that is asked for.

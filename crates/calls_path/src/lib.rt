@@ -11,18 +11,9 @@ ghost use Rattle.calls_gate.specs.Replies.{came};
 ghost use Rattle.calls_gate.specs.Calls.{inner_m};
 ghost use Rattle.calls_path.specs.Quiet.{quietly};
 
-use calls_gate::{Call, NOTHING, Told};
+use calls_gate::{Call, NOTHING, Told, Went};
 use device::{Geometry, Place};
 use pool_state::Pool;
-
-// What an inner call came to, by its number.
-#[derive(Clone, Copy)]
-pub struct Went {
-    pub out: u8,
-    pub told: Told,
-    pub place: Place,
-    pub pool: Pool,
-}
 
 // A call that tells nothing.
 pub fn quiet(out: u8, place: Place, pool: Pool) -> Went

@@ -16,7 +16,7 @@ ghost use Rattle.calls_gate.specs.Calls.{call_p};
 ghost use Rattle.script_step.specs.Operate.{on_handle, on_path, call_of, change_slot, on_slot, made_m};
 ghost use Rattle.script_step.specs.Operate.{bit, answer_m, room, answered_m, op_m, reached, spoken};
 
-use calls_gate::{Call, Reply, Told};
+use calls_gate::{Call, NOTHING, Reply, Told, Went};
 use device::{Geometry, Place};
 use pool_state::Pool;
 use script_format::Op;
@@ -28,15 +28,6 @@ pub struct Ran {
     pub place: Place,
     pub pool: Pool,
     pub at: usize,
-}
-
-// What a call came to: its number, what it tells, and the place and the record after it.
-#[derive(Clone, Copy)]
-struct CallCame {
-    number: u8,
-    told: Told,
-    place: Place,
-    pool: Pool,
 }
 
 // What a call on a slot came to: its number, how many bytes it gave, and the place after it.
@@ -280,9 +271,9 @@ fn make(
     script: &[u8],
     op: Op,
     buf: &mut [u8],
-) -> CallCame
+) -> Went
     requires { Held script.now op }
-    ensures { came result.number result.told (after bytes.new phys.new result.place nums.new names.new dirs.new result.pool) buf.new
+    ensures { came result.out result.told (after bytes.new phys.new result.place nums.new names.new dirs.new result.pool) buf.new
         ≡ made_m script.now plan.now geometry op buf.old
         (before bytes.old phys.old place nums.old names.old dirs.old pool) }
 {
@@ -290,15 +281,12 @@ fn make(
     if 22 <= code {
         let slot = on_slot(bytes, phys, geometry, plan, place, script, op, buf);
         let told = Told {
-            slot: 0,
-            generation: 0,
-            len: 0,
             count: slot.count,
-            yes: false,
+            ..NOTHING
         };
         let after = slot.place;
-        return CallCame {
-            number: slot.number,
+        return Went {
+            out: slot.number,
             told: told,
             place: after,
             pool: pool,
@@ -311,8 +299,8 @@ fn make(
     let told = reply.told;
     let after = reply.place;
     let left = reply.pool;
-    CallCame {
-        number: calls_gate::number(answer),
+    Went {
+        out: calls_gate::number(answer),
         told: told,
         place: after,
         pool: left,
@@ -320,12 +308,6 @@ fn make(
 }
 
 // ---- the answer
-
-fn bit(b: bool) -> u64
-    ensures { result ≡ bit b }
-{
-    if b { 1 } else { 0 }
-}
 
 // Puts out what a call came to: its number, what it tells, as wide as the table says, and the buffer.
 fn put_answer(op: Op, number: u8, told: Told, buf: &[u8], out: &mut [u8], at: usize) -> usize
@@ -340,7 +322,7 @@ fn put_answer(op: Op, number: u8, told: Told, buf: &[u8], out: &mut [u8], at: us
     let c = output::put_le(out, b, form.gives_generation, told.generation);
     let d = output::put_le(out, c, form.gives_len, told.len);
     let e = output::put_le(out, d, form.gives_count, told.count as u64);
-    let f = output::put_le(out, e, form.gives_yes, bit(told.yes));
+    let f = output::put_le(out, e, form.gives_yes, u64::from(told.yes));
     output::put_bytes(out, f, buf)
 }
 
@@ -373,7 +355,7 @@ fn answered(
     let after = came.place;
     let left = came.pool;
     let told = came.told;
-    let to = put_answer(op, came.number, told, buf, out, at);
+    let to = put_answer(op, came.out, told, buf, out, at);
     Ran {
         place: after,
         pool: left,

@@ -7,6 +7,7 @@ use Rattle.script_format.specs.Reading.{Small, small}
 use Rattle.output.specs.Writer.{shown, pours}
 use Rattle.output.proofs.InParts.{after_pours, pours_then}
 use Rattle.script_step.proofs.Ways.{answer_is, near}
+use Rattle.std.proofs.Common.{rules}
 use native.Mathlib.Omega.{arith}
 use Rattle.script_step.proofs.put_answer.Goals as goal
 
@@ -71,7 +72,7 @@ returns c =
     let f = c.form_of-form.result in
     let t = c.args.told in
     let n = c.args.number in
-    let y = c.bit.result in
+    let y = c.from.result in
     let o = shown c.args.out.now c.args.at in
     let buf : List ℕ = c.args.buf.now in
     let e₂ = pours_then (le 1 n) (le f.gives_slot t.slot) o c.put_le-a.ensures c.put_le-b.ensures in
@@ -79,7 +80,7 @@ returns c =
     let e₄ = pours_then _ (le f.gives_len t.len) o e₃ c.put_le-d.ensures in
     let e₅ = pours_then _ (le f.gives_count t.count) o e₄ c.put_le-e.ensures in
     let e₆ = pours_then _ (le f.gives_yes y) o e₅ c.put_le-f.ensures in
-    let whole = answer_is c.args.op f n t y buf c.form_of-form.ensures c.bit.ensures in
+    let whole = answer_is c.args.op f n t y buf c.form_of-form.ensures (search rules) in
     let l₁ = near 1 _ _ (omega arith) c.put_le-a.ensures in
     let l₂ = near _ _ _ m.gives_slot c.put_le-b.ensures in
     let l₃ = near _ _ _ m.gives_generation c.put_le-c.ensures in
