@@ -1,5 +1,5 @@
 -- What every call comes to: one of 01's numbers, and the numbers of so many rows.
-use Prim.Native.Nat.{ℕ, ◌*◌, ◌≤◌}
+use Prim.Native.Nat.{ℕ, ◌*◌}
 use native.Mathlib.Omega.{arith}
 use mathlib.Core.Path.{◌≡◌, ◌∙◌}
 use mathlib.Core.List.{List}
@@ -7,11 +7,10 @@ use lib.Dec.{eqb}
 use lib.ListN.{length, length-replicate}
 use Rattle.limits.specs.Limits.{row_width}
 use Rattle.device.specs.declared.Geometry.{Geometry}
-use Rattle.device.specs.Device.{dev}
 use Rattle.lists.specs.Blocks.{length_pad}
 use Rattle.slot_rows.specs.Rows.{flat_nums}
 use Rattle.pool_state.specs.Numbers.{IsNumber}
-use Rattle.pool_state.specs.State.{State, Bufs, bufs, view, flat}
+use Rattle.pool_state.specs.State.{State, Bufs, view, flat}
 use Rattle.pool_steps.specs.World.{World, Lent, lent, flat_w}
 use Rattle.pool_steps.specs.Outcome.{flat_o}
 use Rattle.pool_steps.proofs.Numbers.{either}

@@ -1,8 +1,8 @@
 -- No stale handle comes back, call by call: what every call makes of the rows (`call_onward`).
-use Prim.Native.Nat.{ℕ, ◌<◌}
-use mathlib.Core.Path.{◌≡◌, refl, sym, subst, ◌∙◌}
-use mathlib.Core.Bool.{true, false, false≢true}
-use mathlib.Core.List.{List, [], ◌∷◌}
+use Prim.Native.Nat.{ℕ}
+use mathlib.Core.Path.{◌≡◌, refl, sym, subst}
+use mathlib.Core.Bool.{false, false≢true}
+use mathlib.Core.List.{List}
 use Rattle.device.specs.declared.Geometry.{Geometry}
 use Rattle.pool_state.specs.State.{view, flat}
 use Rattle.pool_state.specs.InBuffers.{view_flat}

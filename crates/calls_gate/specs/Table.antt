@@ -7,7 +7,7 @@ use Rattle.device.specs.Device.{shape_b}
 use Rattle.pool_state.specs.declared.Chosen.{Chosen}
 use Rattle.pool_state.specs.State.{Bufs, bufs, choosing}
 use Rattle.pool_test.specs.Test.{is_pool}
-use Rattle.pool_steps.specs.World.{Lent, lent}
+use Rattle.pool_steps.specs.World.{Lent}
 use Rattle.mount.specs.Mount.{zero_pool}
 use Rattle.calls_gate.specs.declared.Call.{Call}
 use Rattle.calls_gate.specs.declared.Call.TheVariants.{Mount, Adopt, OpenWrite, OpenRead, ReadAt, WriteAt, SetLen, FileLen}

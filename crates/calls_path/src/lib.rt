@@ -126,10 +126,7 @@ pub fn on_path(
             let d = inner_dirs::exists(nums, names, dirs, pool, first);
             return Went {
                 out: 0,
-                told: Told {
-                    yes: d,
-                    ..NOTHING
-                },
+                told: Told { yes: d, ..NOTHING },
                 place: place,
                 pool: pool,
             };

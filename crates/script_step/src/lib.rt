@@ -377,13 +377,6 @@ fn room(op: Op) -> usize
     0
 }
 
-// A buffer before its call.
-fn fresh() -> [u8; 65536]
-    ensures { result ≡ replicate 65536 170 }
-{
-    [170u8; 65536]
-}
-
 // Runs one operation, and puts out its answer. The large array is made only where a buffer is asked for: to fill it costs more than most
 // calls.
 pub fn step(
@@ -415,7 +408,7 @@ pub fn step(
             out, at,
         );
     }
-    let mut work = fresh();
+    let mut work = [170u8; 65536];
     answered(
         bytes,
         phys,

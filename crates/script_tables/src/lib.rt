@@ -85,12 +85,6 @@ fn put_spans(dirs: &[u8], spans: &[u32], out: &mut [u8], at: usize) -> usize
     a
 }
 
-fn no_spans() -> [u32; 256]
-    ensures { result ≡ replicate 256 0 }
-{
-    [0u32; 256]
-}
-
 // The first m directories, as runs, in order; the cells of spans are for sorting.
 fn put_sorted(dirs: &[u8], m: usize, spans: &mut [u32], out: &mut [u8], at: usize) -> usize
     requires { (m * dir_width ≤ length dirs.now) × (m ≤ 256) × (length spans.old ≡ m) × (at < 2 ^ 61) }
@@ -109,7 +103,7 @@ fn put_dirs(dirs: &[u8], m: usize, out: &mut [u8], at: usize) -> usize
     ensures dirs { Puts (dirs_shown (dirs_of dirs.now m)) out.old out.new at result }
     ensures few { result ≤ at + 200000 }
 {
-    let mut spans = no_spans();
+    let mut spans = [0u32; 256];
     let a = output::put_le(out, at, 2, m as u64);
     put_sorted(dirs, m, &mut spans[..m], out, a)
 }

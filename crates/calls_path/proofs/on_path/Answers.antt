@@ -1,6 +1,6 @@
 -- One arm for each call: `ready` is what it needs, and `arm` says that the one that is asked for was made. No other call is on a path.
 use Rattle.calls_gate.specs.Table.{takes_of}
-use Rattle.calls_gate.specs.Calls.{opened, reading, listed, found, described, inner_m}
+use Rattle.calls_gate.specs.Calls.{opened, reading, listed, inner_m}
 use Rattle.calls_gate.proofs.Passed.{ready}
 use Rattle.calls_gate.proofs.OnPath.{no_other}
 use Rattle.calls_path.proofs.Arms.{arm, quiet_is, made_is, sync_dir_ready, sync_dir_made, remove_file_ready, remove_file_made, exists_ready, exists_made, metadata_ready, metadata_made}

@@ -1,5 +1,5 @@
 -- Carried by `step_is`. The buffer is none, or a front of a fresh array.
-use mathlib.Core.Path.{sym, ap, subst, ◌∙◌, ◌≡◌}
+use mathlib.Core.Path.{refl, sym, ap, subst, ◌∙◌, ◌≡◌}
 use mathlib.Core.List.{List, []}
 use Prim.Native.Nat.{ℕ, ◌<◌, ◌≤◌}
 use lib.ListN.{length, take, replicate}
@@ -28,34 +28,34 @@ returns-then-n-eq0-clause-few c =
 
 pub slice_bounds-work-end : goal.slice_bounds-work-end
 slice_bounds-work-end c =
-    let f = fits c.args.op c.room-n.result 65536 170 c.fresh-work.result c.room-n.ensures c.requires.2
-    c.fresh-work.ensures (omega arith) in
+    let f = fits c.args.op c.room-n.result 65536 170 (replicate 65536 170) c.room-n.ensures c.requires.2
+    refl (omega arith) in
     omega (arith, f.0)
 
 pub slice_bounds-answered-end-2 : goal.slice_bounds-answered-end-2
 slice_bounds-answered-end-2 c =
-    let f = fits c.args.op c.room-n.result 65536 170 c.fresh-work.result c.room-n.ensures
-    c.requires.2 c.fresh-work.ensures (omega arith) in
-    sym (length-take-le c.room-n.result c.fresh-work.result f.1)
+    let f = fits c.args.op c.room-n.result 65536 170 (replicate 65536 170) c.room-n.ensures
+    c.requires.2 refl (omega arith) in
+    sym (length-take-le c.room-n.result (replicate 65536 170) f.1)
 
 pub answered-requires-2 : goal.answered-requires-2
 answered-requires-2 c =
-    let f = fits c.args.op c.room-n.result 65536 170 c.fresh-work.result c.room-n.ensures
-    c.requires.2 c.fresh-work.ensures (omega arith) in (
+    let f = fits c.args.op c.room-n.result 65536 170 (replicate 65536 170) c.room-n.ensures
+    c.requires.2 refl (omega arith) in (
       c.requires.0,
       c.requires.1,
       subst (λ (k : ℕ). k < 65536)
-          (sym (length-take-le c.room-n.result c.fresh-work.result f.1)) f.0,
+          (sym (length-take-le c.room-n.result (replicate 65536 170) f.1)) f.0,
       c.requires.3,
     )
 
 pub returns : goal.returns
 returns c =
-    let f = fits c.args.op c.room-n.result 65536 170 c.fresh-work.result c.room-n.ensures
-    c.requires.2 c.fresh-work.ensures (omega arith) in record {
-      op = step_is _ _ _ c.args.op _ (take c.room-n.result c.fresh-work.result)
+    let f = fits c.args.op c.room-n.result 65536 170 (replicate 65536 170) c.room-n.ensures
+    c.requires.2 refl (omega arith) in record {
+      op = step_is _ _ _ c.args.op _ (take c.room-n.result (replicate 65536 170))
           (shown c.args.out.now c.args.at) _
-          (fresh_front c.room-n.result 65536 170 c.fresh-work.result c.fresh-work.ensures (omega (arith, f.0))
+          (fresh_front c.room-n.result 65536 170 (replicate 65536 170) refl (omega (arith, f.0))
           ∙ ap (λ (k : ℕ). replicate k 170) c.room-n.ensures) c.answered-2.ensures.op;
       few = c.answered-2.ensures.few;
     }

@@ -2,7 +2,7 @@
 use mathlib.Core.Path.{◌≡◌, ◌∙◌, sym, ap}
 use mathlib.Core.List.{◌++◌}
 use Prim.Native.Nat.{ℕ}
-use lib.ListN.{length, length-replicate}
+use lib.ListN.{length, replicate, length-replicate}
 use lib.Seq.{length-take-le}
 use Rattle.lists.specs.Blocks.{cat}
 use Rattle.le.specs.Le.{le}
@@ -18,15 +18,15 @@ use Rattle.script_tables.proofs.put_dirs.Goals as goal
 
 pub slice_bounds-put_sorted-end : goal.slice_bounds-put_sorted-end
 slice_bounds-put_sorted-end c =
-    let n : length c.no_spans-spans.result ≡ 256 = ap length c.no_spans-spans.ensures ∙ length-replicate {A = ℕ} 256 0 in
-    sym (length-take-le c.args.m c.no_spans-spans.result (omega (arith, n, c.requires.1)))
+    let n : length (replicate {A = ℕ} 256 0) ≡ 256 = length-replicate {A = ℕ} 256 0 in
+    sym (length-take-le c.args.m (replicate {A = ℕ} 256 0) (omega (arith, n, c.requires.1)))
 
 pub put_sorted-requires : goal.put_sorted-requires
 put_sorted-requires c =
-    let n : length c.no_spans-spans.result ≡ 256 = ap length c.no_spans-spans.ensures ∙ length-replicate {A = ℕ} 256 0 in (
+    let n : length (replicate {A = ℕ} 256 0) ≡ 256 = length-replicate {A = ℕ} 256 0 in (
       c.requires.0,
       c.requires.1,
-      length-take-le c.args.m c.no_spans-spans.result
+      length-take-le c.args.m (replicate {A = ℕ} 256 0)
           (omega (arith, n, c.requires.1)),
       omega (
         arith,
