@@ -270,7 +270,9 @@ pub fn refusal(
     first: &[u8],
     second: &[u8],
 ) -> Option<Answer>
-    ensures { result ≡ refused_as (refusal_of geometry call first.now second.now (before bytes.now phys.now place nums.now names.now dirs.now pool)) }
+    ensures { result
+        ≡ refused_as (refusal_of geometry call first.now second.now
+        (before bytes.now phys.now place nums.now names.now dirs.now pool)) }
 {
     let takes = takes_of(call);
     if takes.mounts {
