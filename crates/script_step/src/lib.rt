@@ -20,7 +20,7 @@ use calls_gate::{Call, NOTHING, Reply, Told, Went};
 use device::{Geometry, Place};
 use pool_state::Pool;
 use script_format::Op;
-use slot_calls::SlotCame;
+use slot_calls::SlotCount;
 
 // The place and the record after an operation, and how much was put out.
 #[derive(Clone, Copy)]
@@ -28,14 +28,6 @@ pub struct Ran {
     pub place: Place,
     pub pool: Pool,
     pub at: usize,
-}
-
-// What a call on a slot came to: its number, how many bytes it gave, and the place after it.
-#[derive(Clone, Copy)]
-struct OnSlot {
-    number: u8,
-    count: usize,
-    place: Place,
 }
 
 // ---- the call
@@ -164,19 +156,19 @@ fn ask(
     )
 }
 
-// Codes 23 to 26: write_slot, sync_slot, flush_slot, truncate_slot.
+// Codes 23 to 26: write_slot, sync_slot, flush_slot, truncate_slot. The number of the call.
 fn change_slot(
     bytes: &mut [u8],
     phys: &mut [u64],
     geometry: Geometry,
     plan: &[u8],
-    place: Place,
+    place: &mut Place,
     script: &[u8],
     op: Op,
-) -> SlotCame<u8>
+) -> u8
     requires { Held script.now op }
-    ensures { slot_done result.told (dev_after bytes.new phys.new result.place)
-        ≡ change_slot plan.now geometry op (run_in script.now op.first) (dev_before bytes.old phys.old place) }
+    ensures { slot_done result (dev_after bytes.new phys.new place.new)
+        ≡ change_slot plan.now geometry op (run_in script.now op.first) (dev_before bytes.old phys.old place.old) }
 {
     let code = op.code;
     let slot = op.slot;
@@ -186,7 +178,7 @@ fn change_slot(
     let a = first.from;
     let e = first.to;
     if code == 23 {
-        return slot_calls::write_by_value(
+        return slot_calls::write_slot(
             bytes,
             phys,
             geometry,
@@ -200,7 +192,7 @@ fn change_slot(
     if code == 24 {
         let flag = op.flag;
         let generation = op.generation;
-        return slot_calls::sync_by_value(
+        return slot_calls::sync_slot(
             bytes,
             phys,
             geometry,
@@ -214,9 +206,9 @@ fn change_slot(
         );
     }
     if code == 25 {
-        return slot_calls::flush_by_value(bytes, phys, geometry, plan, place, slot);
+        return slot_calls::flush_slot(bytes, phys, geometry, plan, place, slot);
     }
-    slot_calls::truncate_by_value(bytes, phys, geometry, plan, place, slot, len)
+    slot_calls::truncate_slot(bytes, phys, geometry, plan, place, slot, len)
 }
 
 // Codes 22 to 26: a call on a slot of the device, whether or not there is a pool.
@@ -225,35 +217,25 @@ fn on_slot(
     phys: &mut [u64],
     geometry: Geometry,
     plan: &[u8],
-    place: Place,
+    place: &mut Place,
     script: &[u8],
     op: Op,
     buf: &mut [u8],
-) -> OnSlot
+) -> SlotCount
     requires { Held script.now op }
-    ensures { slot_read result.number result.count buf.new (dev_after bytes.new phys.new result.place)
+    ensures { slot_read result.number result.count buf.new (dev_after bytes.new phys.new place.new)
         ≡ on_slot plan.now geometry op (run_in script.now op.first) buf.old
-        (dev_before bytes.old phys.old place) }
+        (dev_before bytes.old phys.old place.old) }
 {
     let code = op.code;
     if code == 22 {
         let slot = op.slot;
         let at = op.at;
-        let got = slot_calls::read_by_value(bytes, phys, geometry, plan, place, slot, at, buf);
-        let told = got.told;
-        let after = got.place;
-        return OnSlot {
-            number: told.number,
-            count: told.count,
-            place: after,
-        };
+        return slot_calls::read_slot(bytes, phys, geometry, plan, place, slot, at, buf);
     }
-    let came = change_slot(bytes, phys, geometry, plan, place, script, op);
-    let after = came.place;
-    OnSlot {
-        number: came.told,
+    SlotCount {
+        number: change_slot(bytes, phys, geometry, plan, place, script, op),
         count: 0,
-        place: after,
     }
 }
 
@@ -279,12 +261,14 @@ fn make(
 {
     let code = op.code;
     if 22 <= code {
-        let slot = on_slot(bytes, phys, geometry, plan, place, script, op, buf);
+        let mut after = place;
+        let slot = on_slot(
+            bytes, phys, geometry, plan, &mut after, script, op, buf,
+        );
         let told = Told {
             count: slot.count,
             ..NOTHING
         };
-        let after = slot.place;
         return Went {
             out: slot.number,
             told: told,

@@ -1,7 +1,6 @@
 // The slot calls of sah.rs over the memory device, public: `read_slot`, `write_slot`, `sync_slot`, `flush_slot` and `truncate_slot`. They
 // work on a device alone: there is no pool, and no record is looked at. Any input may come, and what is refused (2, 3, 4, 6) changes
-// nothing. The place in the plan is lent, and moves on by each device call; the work itself is done over a place by value, which
-// is what callers use that lend none.
+// nothing. The place in the plan is lent, and moves on by each device call.
 #![tactic(auto)]
 
 ghost use Rattle.std.specs.Prelude.{◌≡◌};
@@ -18,114 +17,6 @@ pub struct SlotCount {
     pub number: u8,
     pub count: usize,
 }
-
-// What a call came to, with the place after it: a read's count, any other call's number.
-#[derive(Clone, Copy)]
-pub struct SlotCame<T> {
-    pub told: T,
-    pub place: Place,
-}
-
-// ---- over a lent place
-
-// Reads into buf from file offset `at` on; what buf has past the count stays.
-pub fn read_slot(
-    bytes: &[u8],
-    phys: &[u64],
-    geometry: Geometry,
-    plan: &[u8],
-    place: &mut Place,
-    slot: usize,
-    at: u64,
-    buf: &mut [u8],
-) -> SlotCount
-    ensures { slot_read result.number result.count buf.new (dev_before bytes.now phys.now place.new)
-        ≡ read_slot_m plan.now geometry slot at buf.old (dev_before bytes.now phys.now place.old) }
-{
-    let got = read_by_value(bytes, phys, geometry, plan, *place, slot, at, buf);
-    *place = got.place;
-    got.told
-}
-
-// Writes src from file offset `at` on.
-pub fn write_slot(
-    bytes: &mut [u8],
-    phys: &mut [u64],
-    geometry: Geometry,
-    plan: &[u8],
-    place: &mut Place,
-    slot: usize,
-    at: u64,
-    src: &[u8],
-) -> u8
-    ensures { slot_done result (dev_after bytes.new phys.new place.new)
-        ≡ write_slot_m plan.now geometry slot at src.now (dev_before bytes.old phys.old place.old) }
-{
-    let came = write_by_value(bytes, phys, geometry, plan, *place, slot, at, src);
-    *place = came.place;
-    came.told
-}
-
-// Writes the slot's header, and flushes it where that was done whole. `in_use` is 0 for a free slot.
-pub fn sync_slot(
-    bytes: &mut [u8],
-    phys: &mut [u64],
-    geometry: Geometry,
-    plan: &[u8],
-    place: &mut Place,
-    slot: usize,
-    in_use: u8,
-    path: &[u8],
-    len: u64,
-    generation: u64,
-) -> u8
-    ensures { slot_done result (dev_after bytes.new phys.new place.new)
-        ≡ sync_slot_m plan.now geometry slot in_use path.now len generation
-        (dev_before bytes.old phys.old place.old) }
-{
-    let came = sync_by_value(
-        bytes, phys, geometry, plan, *place, slot, in_use, path, len, generation,
-    );
-    *place = came.place;
-    came.told
-}
-
-// Flushes a slot.
-pub fn flush_slot(
-    bytes: &[u8],
-    phys: &[u64],
-    geometry: Geometry,
-    plan: &[u8],
-    place: &mut Place,
-    slot: usize,
-) -> u8
-    ensures { slot_done result (dev_before bytes.now phys.now place.new)
-        ≡ flush_slot_m plan.now geometry slot (dev_before bytes.now phys.now place.old) }
-{
-    let came = flush_by_value(bytes, phys, geometry, plan, *place, slot);
-    *place = came.place;
-    came.told
-}
-
-// Cuts the slot's file to len bytes, or adds zeros up to them.
-pub fn truncate_slot(
-    bytes: &mut [u8],
-    phys: &mut [u64],
-    geometry: Geometry,
-    plan: &[u8],
-    place: &mut Place,
-    slot: usize,
-    len: u64,
-) -> u8
-    ensures { slot_done result (dev_after bytes.new phys.new place.new)
-        ≡ truncate_slot_m plan.now geometry slot len (dev_before bytes.old phys.old place.old) }
-{
-    let came = truncate_by_value(bytes, phys, geometry, plan, *place, slot, len);
-    *place = came.place;
-    came.told
-}
-
-// ---- over a place by value
 
 // What is refused before the device is called: 2, 3, 4, 6, in this order; 0 where nothing is. A call without a path gives none.
 fn refusal(bytes: &[u8], phys: &[u64], geometry: Geometry, path: &[u8], slot: usize) -> u8
@@ -146,88 +37,76 @@ fn refusal(bytes: &[u8], phys: &[u64], geometry: Geometry, path: &[u8], slot: us
     0
 }
 
-// `read_slot` over a place by value.
-pub fn read_by_value(
+// ---- the calls
+
+// Reads into buf from file offset `at` on; what buf has past the count stays.
+pub fn read_slot(
     bytes: &[u8],
     phys: &[u64],
     geometry: Geometry,
     plan: &[u8],
-    place: Place,
+    place: &mut Place,
     slot: usize,
     at: u64,
     buf: &mut [u8],
-) -> SlotCame<SlotCount>
-    ensures { slot_read result.told.number result.told.count buf.new (dev_before bytes.now phys.now result.place)
-        ≡ read_slot_m plan.now geometry slot at buf.old (dev_before bytes.now phys.now place) }
+) -> SlotCount
+    ensures { slot_read result.number result.count buf.new (dev_before bytes.now phys.now place.new)
+        ≡ read_slot_m plan.now geometry slot at buf.old (dev_before bytes.now phys.now place.old) }
 {
     let number = refusal(bytes, phys, geometry, &[], slot);
     if number != 0 {
-        return SlotCame {
-            told: SlotCount { number, count: 0 },
-            place,
-        };
+        return SlotCount { number, count: 0 };
     }
-    let got = device::data_read(bytes, phys, geometry, plan, place, slot, at, buf);
-    let after = got.place;
-    SlotCame {
-        told: SlotCount {
-            number: after.last,
-            count: got.count,
-        },
-        place: after,
+    let got = device::data_read(bytes, phys, geometry, plan, *place, slot, at, buf);
+    *place = got.place;
+    SlotCount {
+        number: place.last,
+        count: got.count,
     }
 }
 
-// `write_slot` over a place by value.
-pub fn write_by_value(
+// Writes src from file offset `at` on.
+pub fn write_slot(
     bytes: &mut [u8],
     phys: &mut [u64],
     geometry: Geometry,
     plan: &[u8],
-    place: Place,
+    place: &mut Place,
     slot: usize,
     at: u64,
     src: &[u8],
-) -> SlotCame<u8>
-    ensures { slot_done result.told (dev_after bytes.new phys.new result.place)
-        ≡ write_slot_m plan.now geometry slot at src.now (dev_before bytes.old phys.old place) }
+) -> u8
+    ensures { slot_done result (dev_after bytes.new phys.new place.new)
+        ≡ write_slot_m plan.now geometry slot at src.now (dev_before bytes.old phys.old place.old) }
 {
     let number = refusal(bytes, phys, geometry, &[], slot);
     if number != 0 {
-        return SlotCame {
-            told: number,
-            place,
-        };
+        return number;
     }
-    let after = device::data_write(bytes, phys, geometry, plan, place, slot, at, src);
-    SlotCame {
-        told: after.last,
-        place: after,
-    }
+    *place = device::data_write(bytes, phys, geometry, plan, *place, slot, at, src);
+    place.last
 }
 
-// `sync_slot` over a place by value. The header goes through the one writer of headers.
-pub fn sync_by_value(
+// Writes the slot's header, and flushes it where that was done whole. `in_use` is 0 for a free slot.
+pub fn sync_slot(
     bytes: &mut [u8],
     phys: &mut [u64],
     geometry: Geometry,
     plan: &[u8],
-    place: Place,
+    place: &mut Place,
     slot: usize,
     in_use: u8,
     path: &[u8],
     len: u64,
     generation: u64,
-) -> SlotCame<u8>
-    ensures { slot_done result.told (dev_after bytes.new phys.new result.place)
-        ≡ sync_slot_m plan.now geometry slot in_use path.now len generation (dev_before bytes.old phys.old place) }
+) -> u8
+    ensures { slot_done result (dev_after bytes.new phys.new place.new)
+        ≡ sync_slot_m plan.now geometry slot in_use path.now len generation
+        (dev_before bytes.old phys.old place.old) }
 {
     let number = refusal(bytes, phys, geometry, path, slot);
     if number != 0 {
-        return SlotCame {
-            told: number,
-            place,
-        };
+        return number;
     }
     let header = Header {
         in_use: in_use != 0,
@@ -235,62 +114,47 @@ pub fn sync_by_value(
         len,
         generation,
     };
-    let after = device_lent::put_header(bytes, phys, geometry, plan, place, slot, header, path);
-    SlotCame {
-        told: after.last,
-        place: after,
-    }
+    *place = device_lent::put_header(bytes, phys, geometry, plan, *place, slot, header, path);
+    place.last
 }
 
-// `flush_slot` over a place by value.
-pub fn flush_by_value(
+// Flushes a slot.
+pub fn flush_slot(
     bytes: &[u8],
     phys: &[u64],
     geometry: Geometry,
     plan: &[u8],
-    place: Place,
+    place: &mut Place,
     slot: usize,
-) -> SlotCame<u8>
-    ensures { slot_done result.told (dev_before bytes.now phys.now result.place)
-        ≡ flush_slot_m plan.now geometry slot (dev_before bytes.now phys.now place) }
+) -> u8
+    ensures { slot_done result (dev_before bytes.now phys.now place.new)
+        ≡ flush_slot_m plan.now geometry slot (dev_before bytes.now phys.now place.old) }
 {
     let number = refusal(bytes, phys, geometry, &[], slot);
     if number != 0 {
-        return SlotCame {
-            told: number,
-            place,
-        };
+        return number;
     }
-    let after = device::flush(plan, place);
-    SlotCame {
-        told: after.last,
-        place: after,
-    }
+    *place = device::flush(plan, *place);
+    place.last
 }
 
-// `truncate_slot` over a place by value.
-pub fn truncate_by_value(
+// Cuts the slot's file to len bytes, or adds zeros up to them.
+pub fn truncate_slot(
     bytes: &mut [u8],
     phys: &mut [u64],
     geometry: Geometry,
     plan: &[u8],
-    place: Place,
+    place: &mut Place,
     slot: usize,
     len: u64,
-) -> SlotCame<u8>
-    ensures { slot_done result.told (dev_after bytes.new phys.new result.place)
-        ≡ truncate_slot_m plan.now geometry slot len (dev_before bytes.old phys.old place) }
+) -> u8
+    ensures { slot_done result (dev_after bytes.new phys.new place.new)
+        ≡ truncate_slot_m plan.now geometry slot len (dev_before bytes.old phys.old place.old) }
 {
     let number = refusal(bytes, phys, geometry, &[], slot);
     if number != 0 {
-        return SlotCame {
-            told: number,
-            place,
-        };
+        return number;
     }
-    let after = device::data_truncate(bytes, phys, geometry, plan, place, slot, len);
-    SlotCame {
-        told: after.last,
-        place: after,
-    }
+    *place = device::data_truncate(bytes, phys, geometry, plan, *place, slot, len);
+    place.last
 }

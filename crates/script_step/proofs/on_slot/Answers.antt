@@ -6,9 +6,9 @@ use Rattle.script_step.proofs.on_slot.Goals as goal
 
 pub returns-then-code-eq22 : goal.returns-then-code-eq22
 returns-then-code-eq22 c =
-    is_read_slot _ _ c.args.op _ _ _ _ c.if-code-eq22.true c.read_by_value-got.ensures
+    is_read_slot _ _ c.args.op _ _ _ _ c.if-code-eq22.true c.read_slot.ensures
 
 pub returns : goal.returns
 returns c =
-    let r = c.change_slot-came in
-    is_change _ _ c.args.op _ _ c.args.buf.now (slot_done r.result.told (dev r.new.bytes r.new.phys r.result.place)) c.if-code-eq22.false r.ensures
+    let r = c.change_slot in
+    is_change _ _ c.args.op _ _ c.args.buf.now (slot_done r.result (dev r.new.bytes r.new.phys r.new.place)) c.if-code-eq22.false r.ensures

@@ -4,7 +4,7 @@ use Rattle.device.specs.declared.Place.{Place}
 use Rattle.device.specs.Device.{dev, flush_m}
 use Rattle.slot_calls.specs.SlotCalls.{flush_slot_m}
 use Rattle.slot_calls.proofs.Ways.{refused_is, made_is}
-use Rattle.slot_calls.proofs.flush_by_value.Goals as goal
+use Rattle.slot_calls.proofs.flush_slot.Goals as goal
 
 pub returns-then-number-ne0 : goal.returns-then-number-ne0
 unfolding flush_slot_m
@@ -14,4 +14,4 @@ returns-then-number-ne0 c =
 pub returns : goal.returns
 unfolding flush_slot_m flush_m
 returns c =
-    made_is _ _ _ _ _ c.refusal-number.ensures _ _ c.if-number-ne0.false (ap (λ (p : Place). dev c.args.bytes.now c.args.phys.now p) c.flush-after.ensures)
+    made_is _ _ _ _ _ c.refusal-number.ensures _ _ c.if-number-ne0.false (ap (λ (p : Place). dev c.args.bytes.now c.args.phys.now p) c.flush.ensures)

@@ -2,19 +2,19 @@
 use Rattle.device.specs.Device.{dev}
 use Rattle.slot_calls.specs.SlotCalls.{write_slot_m}
 use Rattle.slot_calls.proofs.Ways.{let_through, refused_is, made_is}
-use Rattle.slot_calls.proofs.write_by_value.Goals as goal
+use Rattle.slot_calls.proofs.write_slot.Goals as goal
 
 pub returns-then-number-ne0 : goal.returns-then-number-ne0
 unfolding write_slot_m
 returns-then-number-ne0 c =
     refused_is _ _ _ _ _ c.refusal-number.ensures _ c.if-number-ne0.true
 
-pub data_write-after-requires : goal.data_write-after-requires
-data_write-after-requires c =
-    let p = let_through _ _ _ (dev c.args.bytes.now c.args.phys.now c.args.place) _ c.refusal-number.ensures c.if-number-ne0.false in
+pub data_write-requires : goal.data_write-requires
+data_write-requires c =
+    let p = let_through _ _ _ (dev c.args.bytes.now c.args.phys.now c.args.place.now) _ c.refusal-number.ensures c.if-number-ne0.false in
     record { shape = p.shape; slot_in_bounds = p.row }
 
 pub returns : goal.returns
 unfolding write_slot_m
 returns c =
-    made_is _ _ _ _ _ c.refusal-number.ensures _ _ c.if-number-ne0.false c.data_write-after.ensures.same
+    made_is _ _ _ _ _ c.refusal-number.ensures _ _ c.if-number-ne0.false c.data_write.ensures.same
