@@ -35,7 +35,7 @@ pub enum Answer {
     TooSmall,
 }
 
-// The specification's number of an answer.
+// The specification's number of an answer. A function, since contracts and callers name it; so is `answer_of`.
 #[tactic(auto, unfolding(crate::specs::Answers::number_of))]
 pub fn number(answer: Answer) -> u8
     ensures { result ≡ number_of answer }

@@ -12,7 +12,7 @@ ghost use Rattle.device_lent.specs.Put.{put_m};
 use device::{Geometry, Place};
 use header::Header;
 
-// ---- the thin calls
+// ---- the thin calls: each stays beside its call by value, since edits and the list of theorems speak of it
 
 // Writes the slot's header block.
 pub fn header_write(

@@ -108,7 +108,7 @@ pub fn zeros() -> [u8; 512]
     [0u8; 512]
 }
 
-// The flags that are written: bit 0 says in use.
+// The flags that are written: bit 0 says in use. Spelt out, as the document has it: the number of a flag, not of a bool.
 pub fn flags_of(in_use: bool) -> u64
     ensures { result ≡ flags_of in_use }
 {

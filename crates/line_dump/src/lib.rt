@@ -105,7 +105,7 @@ fn put_dirs(dirs: &[u8], spans: &[u32], out: &mut [u8], at: usize) -> usize
     a
 }
 
-// The lines of all directories.
+// The lines of all directories. Beside `put_all_files`, since rows, spans and lines differ: one function with closures is no shorter.
 fn put_all_dirs(dirs: &[u8], m: usize, out: &mut [u8], at: usize) -> usize
     requires { (m * dir_width ≤ length dirs.now) × (m ≤ 256) × (at + 153600 < 2 ^ 64) }
     ensures { Puts (dirs_text (dirs_of dirs.now m)) out.old out.new at result }

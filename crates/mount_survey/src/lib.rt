@@ -18,7 +18,7 @@ use header::Header;
 use limits::{LAST_COUNTER, MAX_PATH, ROW_WIDTH};
 use slot_rows::Rows;
 
-// The place after the reads, whether one failed, and what the valid headers ask of the counter.
+// The place after the reads, whether one failed, and what the valid headers ask of the counter, which is told on a failure too; so no Option.
 #[derive(Clone, Copy)]
 pub struct Staged {
     pub place: Place,
@@ -26,7 +26,7 @@ pub struct Staged {
     pub asked: u64,
 }
 
-// The slots that lose, in the order found.
+// The slots that lose, in the order found: an array and a count, since there is no heap.
 #[derive(Clone, Copy)]
 pub struct Losers {
     pub list: [u8; 64],
@@ -159,7 +159,7 @@ fn is_claim(in_use: bool, path_len: usize) -> bool
     in_use && path_len > 0
 }
 
-// What is asked of the counter with one more generation.
+// What is asked of the counter with one more generation. It stops at one past the last, where `max` would not.
 fn raised(asked: u64, generation: u64) -> u64
     ensures { result ≡ max asked (asks_for generation) }
 {

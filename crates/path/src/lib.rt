@@ -243,14 +243,16 @@ pub fn parent(src: &[u8], dst: &mut [u8]) -> Option<usize>
     Some(normalize(&src[..e], dst))
 }
 
-// Where the front of the spelling ends that spells the nearest ancestor but the empty path; 0 if there is none.
+// Where the front of the spelling ends that spells the nearest ancestor but the empty path; 0 if there is none, which is where the empty
+// front ends.
 pub fn above(s: &[u8]) -> usize
     ensures { Above s.now result }
 {
     parent_end(s).unwrap_or(0)
 }
 
-// The order of two components that differ; more_a and more_b say whether a slash and more follow them in the normal spellings.
+// The order of two components that differ; more_a and more_b say whether a slash and more follow them in the normal spellings, which no
+// order of the library's asks.
 fn compare_names(a: &[u8], more_a: bool, b: &[u8], more_b: bool) -> Ordering
     ensures { result ≡ name_order more_a a.now more_b b.now }
 {

@@ -42,7 +42,8 @@ fn sizes_ok(pool: Pool, nums: usize, names: usize, dirs: usize) -> bool
         && dirs == dir_rows * DIR_WIDTH
 }
 
-// The greatest of some numbers, 0 where there is none.
+// The greatest of some numbers, 0 where there is none. `text::greatest` is the same of bytes: one function for both would change that public
+// one.
 #[tactic(auto, using(text::proofs::Turns::greatest_turn, text::proofs::Turns::greatest_end))]
 fn top(s: &[u64]) -> u64
     ensures { result ≡ greatest s.now }
@@ -197,7 +198,7 @@ fn queue_ok(rows: &Rows, q: &[u8], m: usize) -> bool
 // A directory is normal if its parent's row is and no slash from there on is idle, so only the last component is looked at. Rows that are
 // normal are one path only if they are the same bytes, so keys and comparisons go by bytes.
 
-// The keys of the directories.
+// The keys of the directories. Beside `row_keys`, since what is read and its key differ: one function with closures is no shorter.
 fn dir_keys(dirs: &[u8], m: usize, keys: &mut [u32])
     requires { (m * dir_width ≤ length dirs.now) × (m ≤ length keys.old) }
     ensures { Keys text_key (dir_at dirs.now) m keys.new }

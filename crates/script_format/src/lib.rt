@@ -23,6 +23,7 @@ pub struct Span {
     pub to: usize,
 }
 
+// A row of the table. `used` is its first column, and no flag beside a value: an edit names a row by it.
 // How an operation is written: whether it is one, the widths of its numbers, how many runs come behind them, and the widths of what it
 // answers.
 #[derive(Clone, Copy)]

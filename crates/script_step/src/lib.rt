@@ -178,16 +178,7 @@ fn change_slot(
     let a = first.from;
     let e = first.to;
     if code == 23 {
-        return slot_calls::write_slot(
-            bytes,
-            phys,
-            geometry,
-            plan,
-            place,
-            slot,
-            at,
-            &script[a..e],
-        );
+        return slot_calls::write_slot(bytes, phys, geometry, plan, place, slot, at, &script[a..e]);
     }
     if code == 24 {
         let flag = op.flag;
@@ -262,9 +253,7 @@ fn make(
     let code = op.code;
     if 22 <= code {
         let mut after = place;
-        let slot = on_slot(
-            bytes, phys, geometry, plan, &mut after, script, op, buf,
-        );
+        let slot = on_slot(bytes, phys, geometry, plan, &mut after, script, op, buf);
         let told = Told {
             count: slot.count,
             ..NOTHING

@@ -116,7 +116,7 @@ impl<'a> Rows<'a> {
         self.is_bound(i) && spells(self.path(i), p, key)
     }
 
-    // The first row that is bound to a path equal to p, or n.
+    // The first row that is bound to a path equal to p, or n: the answer of `find`, which theorems cite.
     pub fn find_row(&self, p: &[u8]) -> usize
         requires { Lie self.now }
         ensures row { result ≡ find p.now (held self.now) }
