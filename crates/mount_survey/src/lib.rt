@@ -18,7 +18,8 @@ use header::Header;
 use limits::{LAST_COUNTER, MAX_PATH, ROW_WIDTH};
 use slot_rows::Rows;
 
-// The place after the reads, whether one failed, and what the valid headers ask of the counter, which is told on a failure too; so no Option.
+// The place after the reads, whether one failed, and what the valid headers ask of the counter, which is told on a failure too: so it is no
+// Option.
 #[derive(Clone, Copy)]
 pub struct Staged {
     pub place: Place,

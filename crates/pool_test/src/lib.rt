@@ -42,8 +42,8 @@ fn sizes_ok(pool: Pool, nums: usize, names: usize, dirs: usize) -> bool
         && dirs == dir_rows * DIR_WIDTH
 }
 
-// The greatest of some numbers, 0 where there is none. `text::greatest` is the same of bytes: one function for both would change that public
-// one.
+// The greatest of some numbers, 0 where there is none. `text::greatest` is the same of bytes: one function for both would change that one,
+// which is public.
 #[tactic(auto, using(text::proofs::Turns::greatest_turn, text::proofs::Turns::greatest_end))]
 fn top(s: &[u64]) -> u64
     ensures { result ≡ greatest s.now }
