@@ -4,12 +4,13 @@ use mathlib.Core.Path.{◌≡◌, refl, sym, ap, ◌∙◌, subst}
 use mathlib.Core.Logic.{◌⊎◌, inl, inr, ⊎_elim}
 use mathlib.Core.List.Memᴰ
 use mathlib.Core.List.{List, [], ◌∷◌}
-use mathlib.Core.Bool.{Bool, true, false, not, false≢true}
+use mathlib.Core.Bool.{Bool, true, false, cond, not, false≢true}
 use native.Mathlib.Omega.{arith}
 use native.Mathlib.Decide.{ℕ_discrete}
 use Rattle.std.proofs.lemmas.Bool.{cases_lt}
 use Rattle.std.proofs.lemmas.Bool.Decides.{nat_tests}
 use lib.ListN.{length, take, get_or}
+use lib.Dec.{eqb}
 use lib.Seq.{length-take-le}
 use borrow.Author.Tests.{eqb-true, eq-eqb, ne_eqb, lt-ltb}
 use Rattle.lists.specs.Runs.{all_of, tab, all_intro, any_not, any_none}
@@ -18,11 +19,11 @@ use Rattle.lists.specs.Distinct.{In, Distinct}
 use Rattle.lists.specs.Distinct.Distinct.{none, more}
 use Rattle.text.specs.Text.{is_text, walk_of}
 use Rattle.path.specs.Path.{components, same_path, normal, ancestors}
-use Rattle.path.proofs.Theorems.{same_path_lem, same_normal}
+use Rattle.path.proofs.Theorems.{same_path_lem, same_path_refl, same_normal}
 use Rattle.path.proofs.Ancestors.{ancestor_normal}
 use Rattle.slot_rows.specs.Rows.{Row, at, is_bound, path_of, gen_of, holds, find, rows_of}
 use Rattle.slot_rows.proofs.InBuffers.{length_rows}
-use Rattle.slot_rows.proofs.Finding.{holds_bound, holds_path, find_same}
+use Rattle.slot_rows.proofs.Finding.{holds_bound, holds_path, find_is, find_same}
 use Rattle.dir_rows.specs.Dirs.{Dirs, has_path}
 use Rattle.dir_rows.proofs.Joined.{in_has, has_one, has_in}
 use Rattle.dir_rows.proofs.Registering.{closed_by_parents}
@@ -32,8 +33,16 @@ use Rattle.pool_state.specs.State.{State, Valid, Bufs, queue_of, view, pool_of, 
 use Rattle.pool_state.specs.InBuffers.{pool_dirs}
 use Rattle.pool_state.specs.Reads.{pool_reads}
 use Rattle.pool_test.specs.Test.{sizes_ok, rest_ok, first_ok, row_ok, is_at, has_num, cell_ok, first_held, up_held, dir_ok, fits_ok, view_ok, is_pool, PoolExactly}
-use Rattle.pool_test.proofs.Filters.{first_of}
 use Rattle.pool_test.proofs.FlatForms.{both, and_of, below, sized, sized_tested, zero_part, fit_rows, row_tested, fit_dirs, dir_tested, fit_queue}
+
+-- a row is the first of its path unless it is bound and a row before it holds the path
+pub first_of : (rs : List Row) (i : ℕ) → (is_bound (at rs i) ≡ true → (j : ℕ) → j < i → holds (path_of (at rs i)) (at rs j) ≡ false) → first_ok rs i ≡ true
+unfolding first_ok
+first_of rs i h = go (is_bound (at rs i)) refl
+  where
+    go : (t : Bool) → is_bound (at rs i) ≡ t → cond t (eqb (find (path_of (at rs i)) rs) i) true ≡ true
+    go false b = refl
+    go true b = eq-eqb _ _ (find_is (path_of (at rs i)) rs i (holds_path (path_of (at rs i)) (at rs i) b ∙ same_path_refl (path_of (at rs i))) (h b))
 
 -- ---- rows apart
 

@@ -3,7 +3,7 @@
 use Prim.Native.Nat.{ℕ, ◌+◌, ◌*◌, ◌≤◌, ◌<◌}
 use mathlib.Core.Path.{◌≡◌, refl, sym, ap, ◌∙◌}
 use mathlib.Core.List.{List}
-use mathlib.Core.Bool.{Bool, true, false, cond, ◌&&◌, false≢true}
+use mathlib.Core.Bool.{Bool, true, false, ◌&&◌, false≢true}
 use native.Mathlib.Omega.{arith}
 use lib.Dec.{eqb, leb}
 use lib.ListN.{length, get_or, take, drop}
@@ -14,9 +14,9 @@ use Rattle.le.proofs.Fields.{field_back}
 use Rattle.lists.specs.Same.{same_bytes, same_bytes_refl, same_bytes_other}
 use Rattle.lists.specs.Runs.{any_not, any_none}
 use Rattle.path.specs.Path.{text_key, key_of}
-use Rattle.path.proofs.Theorems.{same_path_refl, key_other}
-use Rattle.slot_rows.specs.Rows.{Row, at, is_bound, path_of, holds, find}
-use Rattle.slot_rows.proofs.Finding.{holds_unbound, holds_path, find_is}
+use Rattle.path.proofs.Theorems.{key_other}
+use Rattle.slot_rows.specs.Rows.{Row, at, is_bound, path_of, holds}
+use Rattle.slot_rows.proofs.Finding.{holds_unbound, holds_path}
 use Rattle.dir_rows.specs.Rows.{dir_at}
 use Rattle.pool_test.specs.Test.{is_zero, cut_out, dir_fits, is_at, first_ok}
 use Rattle.pool_test.specs.Keys.{Keys, is_dir, has_dir}
@@ -24,6 +24,7 @@ use Rattle.std.specs.Prelude.{◌≢◌}
 use Rattle.std.specs.List.{list_any}
 use Rattle.std.proofs.Common.{Fits, w8}
 use Rattle.pool_test.proofs.Turns.{num_told}
+use Rattle.pool_test.proofs.Exactly.{first_of}
 
 -- where no key before i is key i, none before it has the key of what stands at i
 keys_apart : (g : List ℕ → ℕ) (f : ℕ → List ℕ) (n : ℕ) (ks : List ℕ) (i : ℕ) → Keys g f n ks → i < n → list_any (λ y. eqb y (get_or ks i 0)) (take i ks) ≡ false
@@ -34,15 +35,6 @@ keys_apart g f n ks i K h e j l u =
     ∙ eq-eqb _ _ (K.key j (omega arith) ∙ u ∙ sym (K.key i h)))
 
 -- ---- slot rows
-
--- a row is the first of its path unless it is bound and a row before it holds the path
-pub first_of : (rs : List Row) (i : ℕ) → (is_bound (at rs i) ≡ true → (j : ℕ) → j < i → holds (path_of (at rs i)) (at rs j) ≡ false) → first_ok rs i ≡ true
-unfolding first_ok
-first_of rs i h = go (is_bound (at rs i)) refl
-  where
-    go : (t : Bool) → is_bound (at rs i) ≡ t → cond t (eqb (find (path_of (at rs i)) rs) i) true ≡ true
-    go false b = refl
-    go true b = eq-eqb _ _ (find_is (path_of (at rs i)) rs i (holds_path (path_of (at rs i)) (at rs i) b ∙ same_path_refl (path_of (at rs i))) (h b))
 
 pub first_alone : (rs : List Row) (n : ℕ) (ks : List ℕ) (i : ℕ) → Keys key_of (λ j. path_of (at rs j)) n ks → i < n → list_any (λ y. eqb y (get_or ks i 0)) (take i ks) ≡ false
     → first_ok rs i ≡ true
