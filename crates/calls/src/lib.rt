@@ -100,10 +100,13 @@ fn inner(
         }
         Call::FileLen { slot, generation } => {
             let d = inner_handle::file_len(nums, names, dirs, pool, slot, generation);
+            let Some(len) = d else {
+                return calls_path::quiet(6, place, pool);
+            };
             return Went {
-                out: d.out,
+                out: 0,
                 told: Told {
-                    len: d.len,
+                    len: len,
                     ..NOTHING
                 },
                 place: place,

@@ -5,14 +5,11 @@ use Rattle.device.specs.declared.Geometry.{Geometry}
 use Rattle.pool_state.specs.State.{Bufs, view}
 use Rattle.pool_steps.specs.World.{Lent, lent, view_w}
 use Rattle.mount.specs.Mount.{adopt_m, mount_m, mounted}
-use Rattle.inner_handle.specs.declared.Len.{Len}
 use Rattle.pool_steps.specs.Outcome.{Outcome, None, flat_o}
-use Rattle.inner_handle.specs.Handles.{Filling, file_len_m, read_at_m, write_at_m, set_len_m, sync_m}
-use Rattle.inner_open.specs.declared.Reader.{Reader}
-use Rattle.inner_open.specs.Files.{Handle, open_read_m, open_write_m, remove_m}
+use Rattle.inner_handle.specs.Handles.{Len, Filling, file_len_m, read_at_m, write_at_m, set_len_m, sync_m}
+use Rattle.inner_open.specs.Files.{ReaderTold, Handle, open_read_m, open_write_m, remove_m}
 use Rattle.inner_rename.specs.Rename.{rename_m}
-use Rattle.inner_dirs.specs.declared.Meta.{Meta}
-use Rattle.inner_dirs.specs.Folders.{flat_b, create_dir_all_m, exists_m, metadata_m, sync_dir_m}
+use Rattle.inner_dirs.specs.Folders.{MetaTold, flat_b, create_dir_all_m, exists_m, metadata_m, sync_dir_m}
 use Rattle.inner_list.specs.Listing.{Listing, read_dir_m}
 use Rattle.calls_gate.specs.declared.Call.{Call}
 use Rattle.calls_gate.specs.declared.Call.TheVariants.{Mount, Adopt, OpenWrite, OpenRead, ReadAt, WriteAt, SetLen, FileLen}
@@ -30,7 +27,7 @@ quiet buf o = came o.out nothing o.left buf
 abbrev pub opened : List ℕ → Outcome Handle Lent → Came
 opened buf o = came o.out (telling o.results.slot o.results.generation o.results.len 0 false) o.left buf
 
-abbrev pub reading : List ℕ → Lent → Reader → Came
+abbrev pub reading : List ℕ → Lent → ReaderTold → Came
 reading buf l x = came x.out (telling x.slot x.generation 0 0 false) l buf
 
 -- How many bytes were read, and the buffer; a length.
@@ -51,7 +48,7 @@ listed l x = came x.out (telling 0 0 0 x.size false) l x.buf
 abbrev pub found : List ℕ → Lent → Bool → Came
 found buf l t = came 0 (telling 0 0 0 0 t) l buf
 
-abbrev pub described : List ℕ → Lent → Meta → Came
+abbrev pub described : List ℕ → Lent → MetaTold → Came
 described buf l x = came x.out (telling 0 0 x.len 0 x.is_dir) l buf
 
 -- ---- the calls

@@ -10,14 +10,16 @@ use Rattle.pool_state.specs.declared.Pool.{Pool}
 use Rattle.pool_state.specs.State.{Bufs, bufs, view, IsPool}
 use Rattle.pool_steps.specs.World.{Lent, lent, view_w, Ready}
 use Rattle.pool_steps.specs.Outcome.{Outcome, outcome, flat_o, None}
-use Rattle.inner_open.specs.Files.{remove_m}
+use Rattle.std.proofs.Common.{Option}
+use Rattle.inner_open.specs.declared.Reader.{Reader}
+use Rattle.inner_open.specs.Files.{reader_told, open_read_m, remove_m}
 use Rattle.inner_dirs.specs.declared.Meta.{Meta}
-use Rattle.inner_dirs.specs.Folders.{exists_m, metadata_m, sync_dir_m}
+use Rattle.inner_dirs.specs.Folders.{meta_told, exists_m, metadata_m, sync_dir_m}
 use Rattle.calls_gate.specs.declared.Call.{Call}
-use Rattle.calls_gate.specs.declared.Call.TheVariants.{SyncDir, RemoveFile, Exists, Metadata}
-use Rattle.calls_gate.specs.Replies.{Came, came}
+use Rattle.calls_gate.specs.declared.Call.TheVariants.{OpenRead, SyncDir, RemoveFile, Exists, Metadata}
+use Rattle.calls_gate.specs.Replies.{Came, came, nothing}
 use Rattle.calls_gate.specs.Table.{takes_of, refusal_of}
-use Rattle.calls_gate.specs.Calls.{quiet, made, found, described, inner_m}
+use Rattle.calls_gate.specs.Calls.{quiet, made, found, reading, described, inner_m}
 use Rattle.calls_gate.proofs.Passed.{ready}
 use Rattle.calls_gate.specs.declared.Went.{Went}
 use Rattle.calls_path.specs.Quiet.{quietly}
@@ -34,6 +36,10 @@ module _ (r : Went) (n : ℕ) (p : Place) (q : Pool) (b h m s d buf : List ℕ) 
 
   pub quiet_is : (o : Outcome None Lent) → outcome n tt (lent (dev b h p) (bufs q m s d)) ≡ o → given ≡ quiet buf o
   quiet_is o f = rw e (ap (quiet buf) f)
+
+  -- nor does any other that comes to the same
+  pub none_is : (x : Came) → came n nothing (lent (dev b h p) (bufs q m s d)) buf ≡ x → given ≡ x
+  none_is x f = rw e f
 
   pub made_is : (q₀ : Pool) (d₀ : List ℕ) (o : Outcome None Bufs) → outcome n tt (bufs q m s d) ≡ o
       → given ≡ made buf (lent (dev b h p) (bufs q₀ m s d₀)) o
@@ -74,6 +80,12 @@ module _ (plan : List ℕ) (g : Geometry) (c : Call) (one two buf : List ℕ) (l
   unfolding inner_m
   exists_made t k f = arm plan g c Exists one two buf l _ k (ap (found buf l) f)
 
-  pub metadata_made : (t : Meta) → c ≡ Metadata → t ≡ metadata_m one (view l.bufs) → described buf l t ≡ inner_m plan g c one two buf l
+  pub metadata_made : (d e : Option Meta) → d ≡ e → c ≡ Metadata → meta_told d ≡ metadata_m one (view l.bufs)
+      → described buf l (meta_told e) ≡ inner_m plan g c one two buf l
   unfolding inner_m
-  metadata_made t k f = arm plan g c Metadata one two buf l _ k (ap (described buf l) f)
+  metadata_made d e q k f = arm plan g c Metadata one two buf l _ k (ap (λ (x : Option Meta). described buf l (meta_told x)) (sym q) ∙ ap (described buf l) f)
+
+  pub open_read_made : (d e : Option Reader) → d ≡ e → c ≡ OpenRead → reader_told d ≡ open_read_m one (view l.bufs)
+      → reading buf l (reader_told e) ≡ inner_m plan g c one two buf l
+  unfolding inner_m
+  open_read_made d e q k f = arm plan g c OpenRead one two buf l _ k (ap (λ (x : Option Reader). reading buf l (reader_told x)) (sym q) ∙ ap (reading buf l) f)

@@ -71,11 +71,14 @@ pub fn on_path(
         }
         Call::OpenRead => {
             let d = inner_open::open_read(nums, names, dirs, pool, first);
+            let Some(reader) = d else {
+                return quiet(5, place, pool);
+            };
             return Went {
-                out: d.out,
+                out: 0,
                 told: Told {
-                    slot: d.slot,
-                    generation: d.generation,
+                    slot: reader.slot,
+                    generation: reader.generation,
                     ..NOTHING
                 },
                 place: place,
@@ -133,11 +136,14 @@ pub fn on_path(
         }
         Call::Metadata => {
             let d = inner_dirs::metadata(nums, names, dirs, pool, first);
+            let Some(meta) = d else {
+                return quiet(5, place, pool);
+            };
             return Went {
-                out: d.out,
+                out: 0,
                 told: Told {
-                    len: d.len,
-                    yes: d.is_dir,
+                    len: meta.len,
+                    yes: meta.is_dir,
                     ..NOTHING
                 },
                 place: place,

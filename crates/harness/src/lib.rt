@@ -206,8 +206,7 @@ fn lookups(nums: &[u64], names: &[u8], dirs: &[u8], pool: Pool, path: &[u8], tim
 {
     let mut found = 0u64;
     for _ in 0..times {
-        let reader = inner_open::open_read(nums, names, dirs, pool, path);
-        if reader.out == 0 {
+        if inner_open::open_read(nums, names, dirs, pool, path).is_some() {
             found += 1;
         }
     }

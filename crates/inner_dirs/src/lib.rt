@@ -10,7 +10,7 @@ ghost use Rattle.slot_rows.specs.Held.{held, Lie};
 ghost use Rattle.pool_state.specs.State.{bufs, bufs_before, bufs_after, view, IsPool};
 ghost use Rattle.pool_steps.specs.World.{lent, view_w, Ready, before, after};
 ghost use Rattle.pool_steps.specs.Outcome.{outcome, flat_o};
-ghost use Rattle.inner_dirs.specs.Folders.{flat_b, create_dir_all_m, exists_m, metadata_m, is_due, sync_one_m, sync_dir_m};
+ghost use Rattle.inner_dirs.specs.Folders.{meta_told, flat_b, create_dir_all_m, exists_m, metadata_m, is_due, sync_one_m, sync_dir_m};
 
 use device::{Geometry, Place};
 use inner_handle::Ended;
@@ -25,10 +25,9 @@ pub struct Made {
     pub pool: Pool,
 }
 
-// The number of metadata, a file's length, and whether the path is a directory's.
+// A file's length, and whether the path is a directory's.
 #[derive(Clone, Copy)]
 pub struct Meta {
-    pub out: u8,
     pub len: u64,
     pub is_dir: bool,
 }
@@ -73,10 +72,10 @@ pub fn exists(nums: &[u64], names: &[u8], dirs: &[u8], pool: Pool, path: &[u8]) 
     dir_rows::dir_find(dirs, m, path)
 }
 
-// The length of a file, or that the path is a directory's. A file comes before a directory of the same path.
-pub fn metadata(nums: &[u64], names: &[u8], dirs: &[u8], pool: Pool, path: &[u8]) -> Meta
+// The length of a file, or that the path is a directory's; none where it is neither's, 5. A file comes before a directory of the same path.
+pub fn metadata(nums: &[u64], names: &[u8], dirs: &[u8], pool: Pool, path: &[u8]) -> Option<Meta>
     requires { IsPool (bufs pool nums.now names.now dirs.now) }
-    ensures { result ≡ metadata_m path.now (view (bufs_before nums.now names.now dirs.now pool)) }
+    ensures { meta_told result ≡ metadata_m path.now (view (bufs_before nums.now names.now dirs.now pool)) }
 {
     let n = pool.held;
     let m = pool.dirs;
@@ -88,24 +87,18 @@ pub fn metadata(nums: &[u64], names: &[u8], dirs: &[u8], pool: Pool, path: &[u8]
     };
     let i = rows.find_row(path);
     if i < n {
-        return Meta {
-            out: 0,
+        return Some(Meta {
             len: rows.row_len(i),
             is_dir: false,
-        };
+        });
     }
     if dir_rows::dir_find(dirs, m, path) {
-        return Meta {
-            out: 0,
+        return Some(Meta {
             len: 0,
             is_dir: true,
-        };
+        });
     }
-    Meta {
-        out: 5,
-        len: 0,
-        is_dir: false,
-    }
+    None
 }
 
 // ---- sync_dir

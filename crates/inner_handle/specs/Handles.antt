@@ -1,6 +1,6 @@
 -- The calls on a handle, which is a slot and a generation: file_len, and 01's "Read", "Write", "set_len" and "sync". Each gives 6 where
 -- the handle is not live; else the number of its device call, and 0 where it makes none.
-use Rattle.std.specs.Prelude.{ℕ, ◌+◌, ◌-◌, min, max, Bool, true, false, cond, List, ◌++◌, eqb, ltb, leb, length, take, drop}
+use Rattle.std.specs.Prelude.{ℕ, ◌+◌, ◌-◌, min, max, Bool, true, false, cond, List, ◌++◌, eqb, ltb, leb, length, take, drop, Option, None, Some}
 use Rattle.device.specs.declared.Geometry.{Geometry}
 use Rattle.device.specs.Device.{Dev, dev, flush_m, data_read_m, data_write_m, data_truncate_m}
 use Rattle.slot_rows.specs.Rows.{Row, at, is_bound, gen_of, len_of, is_dirty, resized}
@@ -8,8 +8,7 @@ use Rattle.pool_state.specs.State.{State}
 use Rattle.pool_state.specs.Changes.{with_row}
 use Rattle.pool_steps.specs.World.{World, world}
 use Rattle.pool_steps.specs.Steps.{fine_m, sync_row_m}
-use Rattle.inner_handle.specs.declared.Len.{Len}
-use Rattle.pool_steps.specs.Outcome.{Outcome, outcome, None, by_device}
+use Rattle.pool_steps.specs.Outcome.{Outcome, outcome, None as Nothing, by_device}
 
 -- Not "handle stale, or slot out of range": the slot is held, bound, and under this generation.
 unfoldable pub is_live : ℕ → ℕ → List Row → Bool
@@ -20,6 +19,16 @@ abbrev pub on_handle : {R : Type 0} → ℕ → ℕ → R → World → Outcome 
 on_handle slot generation zeros w o = cond (is_live slot generation w.state.rows) o (outcome 6 zeros w)
 
 -- ---- file_len
+
+-- The number of the call, and the file's length.
+pub record Len : Type 0 where
+  pub out : ℕ
+  pub len : ℕ
+
+-- The length, or 6 where there is none.
+abbrev pub len_told : Option ℕ → Len
+len_told None = record { out = 6; len = 0 }
+len_told (Some n) = record { out = 0; len = n }
 
 unfoldable pub file_len_m : ℕ → ℕ → State → Len
 file_len_m slot generation s = record {
@@ -57,20 +66,20 @@ unfoldable pub resized_m : Dev → ℕ → ℕ → State → World
 resized_m d i n s = world d (cond (fine_m d) (with_row i (resized n true (at s.rows i)) s) s)
 
 -- "On success the length is at least at + bytes, also for no bytes; dirty."
-unfoldable pub write_at_m : List ℕ → Geometry → ℕ → ℕ → ℕ → List ℕ → World → Outcome None World
+unfoldable pub write_at_m : List ℕ → Geometry → ℕ → ℕ → ℕ → List ℕ → World → Outcome Nothing World
 write_at_m plan g slot generation pos src w =
     on_handle slot generation tt w
     (by_device (resized_m (data_write_m plan g slot pos src w.dev) slot (max (len_of (at w.state.rows slot)) (pos + length src)) w.state))
 
 -- "set_len truncates; on success that is the length; dirty."
-unfoldable pub set_len_m : List ℕ → Geometry → ℕ → ℕ → ℕ → World → Outcome None World
+unfoldable pub set_len_m : List ℕ → Geometry → ℕ → ℕ → ℕ → World → Outcome Nothing World
 set_len_m plan g slot generation len w =
     on_handle slot generation tt w (by_device (resized_m (data_truncate_m plan g slot len w.dev) slot len w.state))
 
 -- ---- "sync"
 
 -- "Sync writes and flushes a dirty header, else only flushes; success makes it clean."
-unfoldable pub sync_m : List ℕ → Geometry → ℕ → ℕ → World → Outcome None World
+unfoldable pub sync_m : List ℕ → Geometry → ℕ → ℕ → World → Outcome Nothing World
 sync_m plan g slot generation w =
     on_handle slot generation tt w
     (by_device (cond (is_dirty (at w.state.rows slot)) (sync_row_m plan g slot w) (world (flush_m plan w.dev) w.state)))

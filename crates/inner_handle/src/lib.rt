@@ -9,18 +9,11 @@ ghost use Rattle.slot_rows.specs.Held.{held, Lie};
 ghost use Rattle.pool_state.specs.State.{bufs, bufs_before, view, IsPool};
 ghost use Rattle.pool_steps.specs.World.{lent, view_w, Ready, before, after};
 ghost use Rattle.pool_steps.specs.Outcome.{outcome, flat_o};
-ghost use Rattle.inner_handle.specs.Handles.{is_live, file_len_m, filling, read_at_m, write_at_m, set_len_m, sync_m};
+ghost use Rattle.inner_handle.specs.Handles.{len_told, is_live, file_len_m, filling, read_at_m, write_at_m, set_len_m, sync_m};
 
 use device::{Geometry, Place};
 use pool_state::Pool;
 use slot_rows::Rows;
-
-// The number of a call, and a file's length.
-#[derive(Clone, Copy)]
-pub struct Len {
-    pub out: u8,
-    pub len: u64,
-}
 
 // The number of a call, and the place after it.
 #[derive(Clone, Copy)]
@@ -46,7 +39,7 @@ pub fn live(rows: &Rows, slot: usize, generation: u64) -> bool
     slot < rows.n && rows.is_bound(slot) && rows.row_generation(slot) == generation
 }
 
-// The file's length. The directories are lent only to be part of the pool.
+// The file's length; none where the handle is stale, 6. The directories are lent only to be part of the pool.
 pub fn file_len(
     nums: &[u64],
     names: &[u8],
@@ -54,9 +47,9 @@ pub fn file_len(
     pool: Pool,
     slot: usize,
     generation: u64,
-) -> Len
+) -> Option<u64>
     requires { IsPool (bufs pool nums.now names.now dirs.now) }
-    ensures { result ≡ file_len_m slot generation (view (bufs_before nums.now names.now dirs.now pool)) }
+    ensures { len_told result ≡ file_len_m slot generation (view (bufs_before nums.now names.now dirs.now pool)) }
 {
     let rows = Rows {
         nums,
@@ -65,12 +58,9 @@ pub fn file_len(
         n: pool.held,
     };
     if live(&rows, slot, generation) {
-        return Len {
-            out: 0,
-            len: rows.row_len(slot),
-        };
+        return Some(rows.row_len(slot));
     }
-    Len { out: 6, len: 0 }
+    None
 }
 
 // Reads from file offset `at` on into the buffer, which stays behind the bytes that were read. At or past the file's length there is

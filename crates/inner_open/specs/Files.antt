@@ -1,5 +1,5 @@
 -- The calls by path: open_read, and 01's "Open for writing" and "Remove", with their refusals in 01's order.
-use Rattle.std.specs.Prelude.{ℕ, ◌+◌, Bool, true, cond, List, eqb, ltb, length, get_or}
+use Rattle.std.specs.Prelude.{ℕ, ◌+◌, Bool, true, cond, List, eqb, ltb, length, get_or, Option, None, Some}
 use Rattle.limits.specs.Limits.{max_path, last_counter}
 use Rattle.device.specs.declared.Geometry.{Geometry}
 use Rattle.device.specs.Device.{data_truncate_m}
@@ -10,7 +10,7 @@ use Rattle.pool_state.specs.Queue.{queued, unqueued, spent}
 use Rattle.pool_state.specs.Changes.{with_row, with_dirs}
 use Rattle.pool_steps.specs.World.{World, world}
 use Rattle.pool_steps.specs.Steps.{fine_m, release_m}
-use Rattle.pool_steps.specs.Outcome.{Outcome, outcome, None, by_device}
+use Rattle.pool_steps.specs.Outcome.{Outcome, outcome, None as Nothing, by_device}
 use Rattle.inner_handle.specs.Handles.{resized_m}
 use Rattle.inner_open.specs.declared.Reader.{Reader}
 
@@ -39,7 +39,18 @@ binds i path f s = registers path (with_row i (bound path f) s)
 
 -- ---- open_read
 
-unfoldable pub open_read_m : List ℕ → State → Reader
+-- The number of the call, and the handle.
+pub record ReaderTold : Type 0 where
+  pub out : ℕ
+  pub slot : ℕ
+  pub generation : ℕ
+
+-- The handle, or 5 where there is none.
+abbrev pub reader_told : Option Reader → ReaderTold
+reader_told None = record { out = 5; slot = 0; generation = 0 }
+reader_told (Some r) = record { out = 0; slot = r.slot; generation = r.generation }
+
+unfoldable pub open_read_m : List ℕ → State → ReaderTold
 open_read_m path s = record {
   out = cond (is_file path s) 0 5;
   slot = cond (is_file path s) (find path s.rows) 0;
@@ -99,7 +110,7 @@ open_write_m plan g path keep w =
 -- ---- "Remove"
 
 -- "Remove: 5, 9, device." "Remove unbinds even if its release fails."
-unfoldable pub remove_m : List ℕ → Geometry → List ℕ → World → Outcome None World
+unfoldable pub remove_m : List ℕ → Geometry → List ℕ → World → Outcome Nothing World
 remove_m plan g path w =
     cond (is_file path w.state)
     (cond (ltb last_counter (w.state.counter + 1)) (outcome 9 tt w) (by_device (release_m plan g (find path w.state.rows) w)))

@@ -12,7 +12,7 @@ ghost use Rattle.dir_rows.specs.Rows.{dirs_of, FlatDirs};
 ghost use Rattle.pool_state.specs.State.{bufs, bufs_before, bufs_after, view, flat, IsPool};
 ghost use Rattle.pool_steps.specs.World.{lent, view_w, Ready, before, after};
 ghost use Rattle.pool_steps.specs.Outcome.{outcome, flat_o};
-ghost use Rattle.inner_open.specs.Files.{room_for, binds, handle, open_read_m, reopen_m, create_m, open_write_m, remove_m};
+ghost use Rattle.inner_open.specs.Files.{reader_told, room_for, binds, handle, open_read_m, reopen_m, create_m, open_write_m, remove_m};
 
 use device::{Geometry, Place};
 use limits::{LAST_COUNTER, MAX_PATH};
@@ -20,10 +20,9 @@ use pool_state::Pool;
 use pool_steps::Done;
 use slot_rows::Rows;
 
-// The number of open_read, and the handle.
+// The handle of a file, for reading.
 #[derive(Clone, Copy)]
 pub struct Reader {
-    pub out: u8,
     pub slot: usize,
     pub generation: u64,
 }
@@ -100,10 +99,10 @@ pub fn bind(
     r
 }
 
-// The handle of a file, for reading. The directories are lent only to be part of the pool.
-pub fn open_read(nums: &[u64], names: &[u8], dirs: &[u8], pool: Pool, path: &[u8]) -> Reader
+// The handle of the file of a path, for reading; none where there is no file, 5. The directories are lent only to be part of the pool.
+pub fn open_read(nums: &[u64], names: &[u8], dirs: &[u8], pool: Pool, path: &[u8]) -> Option<Reader>
     requires { IsPool (bufs pool nums.now names.now dirs.now) }
-    ensures { result ≡ open_read_m path.now (view (bufs_before nums.now names.now dirs.now pool)) }
+    ensures { reader_told result ≡ open_read_m path.now (view (bufs_before nums.now names.now dirs.now pool)) }
 {
     let rows = Rows {
         nums,
@@ -113,17 +112,12 @@ pub fn open_read(nums: &[u64], names: &[u8], dirs: &[u8], pool: Pool, path: &[u8
     };
     let i = rows.find_row(path);
     if i < rows.n {
-        return Reader {
-            out: 0,
+        return Some(Reader {
             slot: i,
             generation: rows.row_generation(i),
-        };
+        });
     }
-    Reader {
-        out: 5,
-        slot: 0,
-        generation: 0,
-    }
+    None
 }
 
 // Opens the file of slot i for writing: as it is, or cut to nothing, which makes it dirty. Its generation stays.

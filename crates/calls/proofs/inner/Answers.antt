@@ -9,17 +9,23 @@ use Rattle.pool_steps.specs.World.{Lent}
 use Rattle.pool_steps.specs.Outcome.{Outcome, None}
 use Rattle.mount.specs.Mount.{mount_m, mounted}
 use Rattle.calls_gate.specs.Table.{takes_of}
+use Rattle.std.proofs.Common.{Option}
+use Rattle.inner_handle.specs.Handles.{Len, len_told}
 use Rattle.calls_gate.specs.Calls.{filled, measured, inner_m}
 use Rattle.calls_gate.proofs.Passed.{ready, mounts_on}
 use Rattle.calls_gate.proofs.OnPath.{is_on_path}
-use Rattle.calls_path.proofs.Arms.{arm, quiet_is}
-use mathlib.Core.Path.{◌≡◌, refl, ap, ◌∙◌}
+use Rattle.calls_path.proofs.Arms.{arm, quiet_is, none_is}
+use mathlib.Core.Path.{◌≡◌, refl, ap, sym, ◌∙◌}
 use Rattle.calls.proofs.inner.Goals as goal
 
 -- a mount of what was chosen is one of what the maker says
 as-chosen : (plan : List ℕ) (g : Geometry) (h i : Chosen) → h ≡ i → (k : ℕ) (d : Dev) (x : Outcome None Lent)
     → x ≡ mounted (mount_m plan g h k d) → x ≡ mounted (mount_m plan g i k d)
 as-chosen plan g h i e k d x q = q ∙ ap (λ (y : Chosen). mounted (mount_m plan g y k d)) e
+
+-- a length that came back is the one of the call
+file_len_made : (buf : List ℕ) (l : Lent) (x : Len) (d e : Option ℕ) → d ≡ e → len_told d ≡ x → measured buf l (len_told e) ≡ measured buf l x
+file_len_made buf l x d e q f = ap (λ (o : Option ℕ). measured buf l (len_told o)) (sym q) ∙ ap (measured buf l) f
 
 pub mount_rows-d-requires : goal.mount_rows-d-requires
 unfolding takes_of
@@ -81,7 +87,13 @@ file_len-d-requires c =
 pub returns-in-FileLen : goal.returns-in-FileLen
 unfolding inner_m
 returns-in-FileLen c =
-    arm _ _ _ _ _ _ _ _ _ c.in-FileLen.is (ap (measured c.args.buf.now _) c.file_len-d.ensures)
+    arm _ _ _ _ _ _ _ _ _ c.in-FileLen.is (file_len_made _ _ _ _ _ c.in-Some.is c.file_len-d.ensures)
+
+pub returns-in_default-d : goal.returns-in_default-d
+unfolding inner_m
+returns-in_default-d c =
+    none_is _ _ _ _ _ _ _ _ _ _ c.quiet-in_default-d.ensures _
+    (arm _ _ _ _ _ _ _ _ _ c.in-FileLen.is (file_len_made _ _ _ _ _ c.in_default-d.is c.file_len-d.ensures))
 
 pub sync-d-requires : goal.sync-d-requires
 unfolding takes_of

@@ -1,9 +1,9 @@
 -- One arm for each call: `ready` is what it needs, and `arm` says that the one that is asked for was made. No other call is on a path.
 use Rattle.calls_gate.specs.Table.{takes_of}
-use Rattle.calls_gate.specs.Calls.{opened, reading, listed, inner_m}
+use Rattle.calls_gate.specs.Calls.{opened, listed, inner_m}
 use Rattle.calls_gate.proofs.Passed.{ready}
 use Rattle.calls_gate.proofs.OnPath.{no_other}
-use Rattle.calls_path.proofs.Arms.{arm, quiet_is, made_is, sync_dir_ready, sync_dir_made, remove_file_ready, remove_file_made, exists_ready, exists_made, metadata_ready, metadata_made}
+use Rattle.calls_path.proofs.Arms.{arm, quiet_is, none_is, open_read_made, made_is, sync_dir_ready, sync_dir_made, remove_file_ready, remove_file_made, exists_ready, exists_made, metadata_ready, metadata_made}
 use borrow.Author.Rules.{rules}
 use mathlib.Core.Path.{refl, ap}
 use Rattle.calls_path.proofs.on_path.Goals as goal
@@ -24,9 +24,13 @@ open_read-d-requires c =
     (ready _ _ _ _ _ _ c.requires.passed c.in-OpenRead.is refl).pool
 
 pub returns-in-OpenRead : goal.returns-in-OpenRead
-unfolding inner_m
 returns-in-OpenRead c =
-    arm _ _ _ _ _ _ _ _ _ c.in-OpenRead.is (ap (reading c.args.buf.now _) c.open_read-d.ensures)
+    open_read_made _ _ _ _ _ _ _ _ _ c.in-Some.is c.in-OpenRead.is c.open_read-d.ensures
+
+pub returns-in_default-d : goal.returns-in_default-d
+returns-in_default-d c =
+    none_is _ _ _ _ _ _ _ _ _ _ c.quiet.ensures _
+    (open_read_made _ _ _ _ _ _ _ _ _ c.in_default-d.is c.in-OpenRead.is c.open_read-d.ensures)
 
 pub sync_dir-d-requires : goal.sync_dir-d-requires
 sync_dir-d-requires c =
@@ -91,7 +95,12 @@ metadata-d-requires c =
 
 pub returns-in-Metadata : goal.returns-in-Metadata
 returns-in-Metadata c =
-    search (rules, metadata_made)
+    metadata_made _ _ _ _ _ _ _ _ _ c.in-Some-d.is c.in-Metadata.is c.metadata-d.ensures
+
+pub returns-in_default-d-2 : goal.returns-in_default-d-2
+returns-in_default-d-2 c =
+    none_is _ _ _ _ _ _ _ _ _ _ c.quiet-in_default-d-2.ensures _
+    (metadata_made _ _ _ _ _ _ _ _ _ c.in_default-d-2.is c.in-Metadata.is c.metadata-d.ensures)
 
 pub returns-in_default : goal.returns-in_default
 returns-in_default c =
