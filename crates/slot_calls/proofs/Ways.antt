@@ -73,6 +73,14 @@ module _ (g : Geometry) (path : List ℕ) (slot : ℕ) (d : Dev) (n : ℕ) (e : 
   pub let_through : n ≡ 0 → Passed g d.bytes d.phys path slot
   let_through z = passed g d.bytes d.phys path slot (sym z ∙ e)
 
+-- what the device call of a write and of a truncate asks: named at the two
+module _ (g : Geometry) (bytes phys path : List ℕ) (slot n : ℕ) (e : n ≡ slot_refusal g bytes phys path slot) (z : n ≡ 0) where
+  pub shaped : Shape g bytes phys
+  shaped = (passed g bytes phys path slot (sym z ∙ e)).shape
+
+  pub held : slot < length phys
+  held = (passed g bytes phys path slot (sym z ∙ e)).row
+
 module _ (plan : List ℕ) (g : Geometry) (slot at : ℕ) (buf : List ℕ) (d : Dev) (n : ℕ)
     (e : n ≡ slot_refusal g d.bytes d.phys [] slot) where
   pub read_refused : (n ≡ 0 → ⊥) → slot_read n 0 buf d ≡ read_slot_m plan g slot at buf d

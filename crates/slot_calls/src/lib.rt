@@ -66,6 +66,7 @@ pub fn read_slot(
 }
 
 // Writes src from file offset `at` on.
+#[tactic(auto, using(crate::proofs::Ways::shaped, crate::proofs::Ways::held), unfolding(crate::specs::SlotCalls::write_slot_m))]
 pub fn write_slot(
     bytes: &mut [u8],
     phys: &mut [u64],
@@ -139,6 +140,7 @@ pub fn flush_slot(
 }
 
 // Cuts the slot's file to len bytes, or adds zeros up to them.
+#[tactic(auto, using(crate::proofs::Ways::shaped, crate::proofs::Ways::held), unfolding(crate::specs::SlotCalls::truncate_slot_m))]
 pub fn truncate_slot(
     bytes: &mut [u8],
     phys: &mut [u64],
