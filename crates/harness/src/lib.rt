@@ -199,15 +199,15 @@ pub fn record_lookups(
     0
 }
 
-// How many of so many searches of a path find it.
+// How many of so many searches of a path find it: all or none, so the turn is the count, and the compiler may make one search for all.
 fn lookups(nums: &[u64], names: &[u8], dirs: &[u8], pool: Pool, path: &[u8], times: u64) -> u64
     requires { IsPool (bufs pool nums.now names.now dirs.now) }
     ensures { result ≡ hits path.now (view (bufs pool nums.now names.now dirs.now)) times }
 {
     let mut found = 0u64;
-    for _ in 0..times {
+    for i in 0..times {
         if inner_open::open_read(nums, names, dirs, pool, path).is_some() {
-            found += 1;
+            found = i + 1;
         }
     }
     found

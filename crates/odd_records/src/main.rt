@@ -222,6 +222,8 @@ fn folder(name: &[u8], bytes: &mut [u8], s: Setting, path: &[u8]) -> Setting {
 }
 
 // Prints a name, and asks whether a/b exists: with a number at a spot with which the input is no pool, and with one with which it is.
+// Not inlined: its settings, of 156 KB each, would lie in its callers' frames.
+#[inline(never)]
 fn attempt(bytes: &mut [u8], s: &Setting, name: &[u8], spot: Spot, bad: u64, good: u64) {
     let refused = ask(bytes, put(*s, spot, bad), Call::Exists, b"a/b");
     let taken = ask(bytes, put(*s, spot, good), Call::Exists, b"a/b");

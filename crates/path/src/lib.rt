@@ -6,7 +6,7 @@
 ghost use Rattle.std.specs.Prelude.{◌≡◌, ◌+◌, ◌≤◌, length, drop};
 ghost use Rattle.le.specs.Le.{laid};
 ghost use Rattle.lists.specs.Same.{same_bytes};
-ghost use Rattle.path.specs.Path.{same_path, is_parent, slash, normal, parent_of, parent_len, path_order, text_key, key_of};
+ghost use Rattle.path.specs.Path.{same_path, is_parent, slash, normal, parent_of, parent_len, path_order, tail8, text_key, key_of};
 ghost use Rattle.path.specs.Spelling.{idle_slash};
 ghost use Rattle.path.specs.Walk.{run, NameOf, NextOf, Starts, LastOf, UpOf, Above, name_order, parent_laid};
 
@@ -301,11 +301,23 @@ pub fn compare(a: &[u8], b: &[u8]) -> Ordering
     Ordering::Equal
 }
 
+// The last eight bytes of a text as a number, or as many as it has. Where there are eight their count is a constant, so that they can be
+// read at once: keys are asked for in every call.
+fn tail_number(c: &[u8]) -> u64
+    ensures { result ≡ tail8 c.now }
+{
+    let n = c.len();
+    if n < 8 {
+        return le::get_le(c);
+    }
+    le::get_at(c, n - 8, 8)
+}
+
 // A key of a text, whatever it spells, from its last eight bytes, or as many as it has, and its length.
 pub fn text_key(c: &[u8]) -> u32
     ensures { result ≡ text_key c.now }
 {
-    let x = le::get_le(&c[c.len().saturating_sub(8)..]);
+    let x = tail_number(c);
     let n = (c.len() % 65536) as u64;
     ((x % 4294967296 + x / 4294967296 * 31 + n) % 4294967296) as u32
 }

@@ -40,14 +40,15 @@ fn replay_all() -> Tally {
     tally
 }
 
-// The tally with the next entry in it, if its output is there. A script that does not fit counts as an empty one.
+// The tally with the next entry in it, if its output is there. A script that does not fit counts as an empty one; of one that is cut off,
+// where the input goes on behind it, what did not come counts as zeros.
 fn replay(tally: Tally) -> Option<Tally> {
     let mut script = io::large_buffer();
     let mut recorded = io::large_buffer();
     let mut out = io::large_buffer();
-    let asked = read_run(&mut script);
+    let n = read_len(script.len()).unwrap_or(0);
+    io::read_full(STDIN_FILENO, &mut script[..n]);
     let m = read_run(&mut recorded)?;
-    let n = asked.unwrap_or(0);
     let len = script::pool_script(&script[..n], &mut out);
     let same = len <= out.len() && out[..len] == recorded[..m];
     if !same {
@@ -70,18 +71,23 @@ fn tell(number: u64, n: usize, m: usize) {
     io::write_all(STDOUT_FILENO, b", or others\n");
 }
 
-// Reads a u32 and that many bytes into the front of a buffer, and gives how many, if the run is whole and fits.
-fn read_run(into: &mut [u8]) -> Option<usize>
-    ensures { IfSome result (λ n. n ≤ length into.new) }
+// Reads a u32, and gives it if it is there and is at most `room`.
+fn read_len(room: usize) -> Option<usize>
+    ensures { IfSome result (λ n. n ≤ room) }
 {
     let mut four = [0u8; 4];
     if io::read_full(STDIN_FILENO, &mut four) < 4 {
         return None;
     }
     let len = le::get_at(&four, 0, 4) as usize;
-    if into.len() < len {
-        return None;
-    }
+    (len <= room).then_some(len)
+}
+
+// Reads a u32 and that many bytes into the front of a buffer, and gives how many, if the run is whole and fits.
+fn read_run(into: &mut [u8]) -> Option<usize>
+    ensures { IfSome result (λ n. n ≤ length into.new) }
+{
+    let len = read_len(into.len())?;
     let read = io::read_full(STDIN_FILENO, &mut into[..len]);
     (read == len).then_some(len)
 }

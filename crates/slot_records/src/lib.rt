@@ -45,7 +45,8 @@ pub fn load(rows: &[Slot], nums: &mut [u64])
     requires { length rows.now * row_width ≤ length nums.old }
     ensures { nums.new ≡ loaded rows.now nums.old }
 {
-    for (i, slot) in rows.iter().enumerate() {
+    for i in 0..rows.len() {
+        let slot = get(rows, i);
         slot_rows::put_nums(nums, i, slot.mark, slot.path_len, slot.len, slot.generation);
     }
 }
@@ -55,8 +56,8 @@ pub fn store(rows: &mut [Slot], nums: &[u64])
     requires { length rows.old * row_width ≤ length nums.now }
     ensures { rows.new ≡ stored nums.now rows.old }
 {
-    for (i, slot) in rows.iter_mut().enumerate() {
-        *slot = from_nums(nums, i);
+    for i in 0..rows.len() {
+        set(rows, i, from_nums(nums, i));
     }
 }
 

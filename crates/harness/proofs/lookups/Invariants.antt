@@ -4,5 +4,5 @@ use Rattle.pool_state.specs.State.{bufs, view}
 use Rattle.harness.specs.Calls.{hits}
 use Rattle.harness.proofs.lookups.Given as goal
 
-abbrev pub invariant-loop : goal.invariant-loop
-invariant-loop l = l.found ≡ hits l.path (view (bufs l.pool l.nums l.names l.dirs)) l.counter
+abbrev pub invariant-loop-i : goal.invariant-loop-i
+invariant-loop-i l = l.found ≡ hits l.path (view (bufs l.pool l.nums l.names l.dirs)) l.i

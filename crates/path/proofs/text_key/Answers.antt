@@ -5,4 +5,4 @@ use Rattle.path.proofs.text_key.Goals as goal
 
 pub returns : goal.returns
 returns c =
-    text_key_is _ _ _ _ c.saturating_sub.ensures c.get_le-x.ensures refl
+    text_key_is _ _ _ c.tail_number-x.ensures refl

@@ -1,4 +1,4 @@
--- A turn of the loop is `patches_turn`: patching what is left gives the whole; `patches_stop` and `patches_end` are the ways out.
+-- Patching what is left gives the whole.
 use Rattle.std.proofs.Common.{◌≡◌, ◌-◌, ◌≤◌, length}
 use Rattle.script_format.specs.Format.{patched_m}
 use Rattle.script_format.proofs.patch.Given as goal
