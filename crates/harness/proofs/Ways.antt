@@ -1,7 +1,7 @@
 -- The ways out of the exported calls that their definitions, opened, do not show, and the count of searches.
 use Prim.Native.Nat.{ℕ, ◌+◌, ◌<◌, ◌≤◌}
 use mathlib.Core.Path.{◌≡◌, refl, sym, ap, ◌∙◌}
-use mathlib.Core.Bool.{Bool, true, false, cond, not, false≢true}
+use mathlib.Core.Bool.{Bool, true, false, cond, not}
 use mathlib.Core.List.{List, ◌++◌}
 use borrow.Author.Tests.{le-ltb, eq-eqb, ne_eqb}
 use lib.ListN.{length, take, drop}
@@ -13,11 +13,11 @@ use Rattle.path.specs.Walk.{UpTo}
 use Rattle.header.specs.Block.{block_len, max_path, header_of, encoded}
 use Rattle.header.proofs.BlockLaws.{short_absent}
 use Rattle.harness.specs.Calls.{outcome, encode_call, said_of, decode_call, spelled, parent_call, hits}
-use Rattle.pool_state.specs.State.{State}
-use Rattle.std.specs.Option.{is_some}
-use Rattle.std.proofs.Common.{Option, None, Some, arith}
-use Rattle.inner_open.specs.declared.Reader.{Reader}
-use Rattle.inner_open.specs.Files.{ReaderTold, reader_told, open_read_m}
+use Rattle.slot_rows.specs.Rows.{find, rows_of}
+use Rattle.pool_state.specs.State.{State, Bufs, view}
+use Rattle.std.proofs.Common.{arith}
+use Rattle.inner_open.specs.Files.{ReaderTold, open_read_m}
+use Rattle.inner_open.proofs.Ways.{open_read_found, open_read_none}
 use lib.Dec.{eqb}
 
 -- what a test said of a flag, of what the flag stands for
@@ -64,15 +64,13 @@ module _ (path : List ℕ) (s : State) (k : ℕ) where
   unfolding hits
   hits_fail {n} e f = rw (e, ne_eqb n 0 f)
 
-  -- a reader came back
-  pub found_by : (d : Option Reader) → reader_told d ≡ open_read_m path s → is_some d ≡ true → (open_read_m path s).out ≡ 0
-  found_by (Some r) e _ = sym (ap (λ (x : ReaderTold). x.out) e)
-  found_by None _ f = absurd (false≢true f)
+-- what the search of a row tells of the search of a path
+module _ (b : Bufs) (path : List ℕ) (i : ℕ) (e : i ≡ find path (rows_of b.nums b.names b.pool.held)) (k : ℕ) where
+  pub found_by : i < b.pool.held → hits path (view b) (k + 1) ≡ k + 1
+  found_by h = hits_all path (view b) (k + 1) (sym (ap (λ (x : ReaderTold). x.out) (open_read_found b path i e _ h refl)))
 
-  -- none came back
-  pub lost_by : (d : Option Reader) → reader_told d ≡ open_read_m path s → is_some d ≡ false → hits path s k ≡ hits path s (k + 1)
-  lost_by None e _ = hits_fail (sym (ap (λ (x : ReaderTold). x.out) e)) (λ f. absurd (omega (arith, f)))
-  lost_by (Some r) _ f = absurd (false≢true (sym f))
+  pub lost_by : b.pool.held ≤ i → hits path (view b) k ≡ hits path (view b) (k + 1)
+  lost_by h = hits_fail path (view b) k (sym (ap (λ (x : ReaderTold). x.out) (open_read_none b path i e h))) (λ f. absurd (omega (arith, f)))
 
 -- before the first search none has found it
 pub hits_start : (path : List ℕ) (s : State) → hits path s 0 ≡ 0

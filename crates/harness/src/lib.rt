@@ -15,6 +15,7 @@ ghost use Rattle.harness.specs.Calls.{normal_call, parent_call, counted_pool, re
 
 use header::Header;
 use pool_state::Pool;
+use slot_rows::Rows;
 
 // The state of the 32-bit FNV-1a behind these bytes, from the state `start`.
 pub fn slot_check(start: u32, bytes: &[u8]) -> u32
@@ -199,14 +200,21 @@ pub fn record_lookups(
     0
 }
 
-// How many of so many searches of a path find it: all or none, so the turn is the count, and the compiler may make one search for all.
+// How many of so many searches of a path find it: all or none, so the turn is the count. The rows are a value outside of the loop: made in
+// each turn, as `open_read` makes them, they would keep the compiler from seeing that all searches are one.
 fn lookups(nums: &[u64], names: &[u8], dirs: &[u8], pool: Pool, path: &[u8], times: u64) -> u64
     requires { IsPool (bufs pool nums.now names.now dirs.now) }
     ensures { result ≡ hits path.now (view (bufs pool nums.now names.now dirs.now)) times }
 {
+    let rows = Rows {
+        nums,
+        names,
+        cap: pool.chosen.rows,
+        n: pool.held,
+    };
     let mut found = 0u64;
     for i in 0..times {
-        if inner_open::open_read(nums, names, dirs, pool, path).is_some() {
+        if rows.find_row(path) < rows.n {
             found = i + 1;
         }
     }

@@ -181,6 +181,8 @@ fn five() -> Setting {
 }
 
 // Four slots of five are mounted, two hold a/b and a//c, and six directories are there: a, de/f, de, a/m, k, gh.
+// Not inlined, as `shapes` is not: main's frame would hold the settings of both, of 156 KB each.
+#[inline(never)]
 fn records(bytes: &mut [u8]) {
     let s = files(bytes, five());
     let s = parents(bytes, s);
@@ -222,17 +224,19 @@ fn folder(name: &[u8], bytes: &mut [u8], s: Setting, path: &[u8]) -> Setting {
 }
 
 // Prints a name, and asks whether a/b exists: with a number at a spot with which the input is no pool, and with one with which it is.
-// Not inlined: its settings, of 156 KB each, would lie in its callers' frames.
-#[inline(never)]
 fn attempt(bytes: &mut [u8], s: &Setting, name: &[u8], spot: Spot, bad: u64, good: u64) {
-    let refused = ask(bytes, put(*s, spot, bad), Call::Exists, b"a/b");
-    let taken = ask(bytes, put(*s, spot, good), Call::Exists, b"a/b");
     say(name);
     say(b": ");
-    number(refused.number);
+    number(exists_with(bytes, s, spot, bad));
     say(b", good ");
-    number(taken.number);
+    number(exists_with(bytes, s, spot, good));
     say(b"\n");
+}
+
+// What the question whether a/b exists comes to with a number at a spot. Not inlined: so one setting at a time is made for it.
+#[inline(never)]
+fn exists_with(bytes: &mut [u8], s: &Setting, spot: Spot, x: u64) -> u8 {
+    ask(bytes, put(*s, spot, x), Call::Exists, b"a/b").number
 }
 
 // Counts above their limits, and the counter.
@@ -534,6 +538,7 @@ fn one() -> Setting {
 
 // A pool of one slot that holds f, under generation 1. Each call is made on each wrong shape, and then on the device that is
 // as it should be.
+#[inline(never)]
 fn shapes(bytes: &mut [u8]) {
     say(
         b"slots of 511, of 513, of 0, of 1049088 bytes; a byte too few, a byte too many; a length above the size; no slot\n",
@@ -615,7 +620,7 @@ fn calls(bytes: &mut [u8], s: &mut Setting) {
 fn misshaped(bytes: &mut [u8], s: &mut Setting, name: &[u8], call: Call, path: &[u8]) {
     say(name);
     say(b":");
-    on_shapes(bytes, *s, call, path);
+    on_shapes(bytes, s, call, path);
     let good = ask(bytes, *s, call, path);
     say(b", good ");
     number(good.number);
@@ -624,9 +629,9 @@ fn misshaped(bytes: &mut [u8], s: &mut Setting, name: &[u8], call: Call, path: &
 }
 
 // Prints what a call answers on each wrong shape.
-fn on_shapes(bytes: &mut [u8], s: Setting, call: Call, path: &[u8]) {
+fn on_shapes(bytes: &mut [u8], s: &Setting, call: Call, path: &[u8]) {
     for j in 0..8 {
-        let bad = ask(bytes, shaped(s, j), call, path);
+        let bad = ask(bytes, shaped(*s, j), call, path);
         say(b" ");
         number(bad.number);
     }

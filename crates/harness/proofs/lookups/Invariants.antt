@@ -5,4 +5,4 @@ use Rattle.harness.specs.Calls.{hits}
 use Rattle.harness.proofs.lookups.Given as goal
 
 abbrev pub invariant-loop-i : goal.invariant-loop-i
-invariant-loop-i l = l.found ≡ hits l.path (view (bufs l.pool l.nums l.names l.dirs)) l.i
+invariant-loop-i l = l.found ≡ hits l.path (view (bufs l.fn.pool l.nums l.names l.dirs)) l.i
